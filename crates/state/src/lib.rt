@@ -1,0 +1,1 @@
+// Definitions only: maps over texts, the Rust's records and the state.
