@@ -1,2 +1,7 @@
 pub mod Maps
+pub mod MapLaws
+pub mod Sorted
+pub mod Places
 pub mod Records
+pub mod Setters
+pub mod RecordLaws

@@ -1,18 +1,17 @@
--- The records of the Rust, with its field names, and its `is_valid` tests.
-use Prim.Native.Nat.{ℕ, zero, suc, _-_, _^_, min}
+-- The records of the Rust, with its names and its fields in their declared order, its `==` and its `is_valid` tests.
+use Prim.Native.Nat.{ℕ}
 use mathlib.Core.List.{List, [], _∷_}
 use mathlib.Core.Option.{Option, none, some}
-use mathlib.Core.Bool.{Bool, true, false, not, _&&_, _||_}
-use lib.Dec.{leb, ltb, eqb}
-use lib.ListN.{length}
+use mathlib.Core.Bool.{Bool, true, false, not, _&&_}
+use lib.Dec.{eqb}
+use Rattle.text.specs.Same.{sha256Of}
 use Rattle.state.specs.Maps.{Text, Map, same, same-texts, same-option, is-empty, contains, starts-with, all}
 
 pub record AuthorityPosition : Type 0 where
   pub term : ℕ
   pub index : ℕ
 
--- AuthorityContext
-pub record Context : Type 0 where
+pub record AuthorityContext : Type 0 where
   pub generation : ℕ
   pub position : AuthorityPosition
 
@@ -83,8 +82,7 @@ pub record DeletePermit : Type 0 where
   pub owner-generation : ℕ
   pub authority-position : AuthorityPosition
 
--- PublicationAuthorityFaults
-pub record Faults : Type 0 where
+pub record PublicationAuthorityFaults : Type 0 where
   pub publish-without-intent : Bool
   pub ignore-root-epoch : Bool
   pub ignore-delete-reservation : Bool
@@ -97,8 +95,20 @@ pub record Faults : Type 0 where
   pub advance-collection-without-publication : Bool
   pub ignore-collection-input-root : Bool
 
-abbrev pub no-faults : Faults
-no-faults = record { publish-without-intent = false; ignore-root-epoch = false; ignore-delete-reservation = false; ignore-root-compare = false; allow-cross-generation-intent = false; retire-by-plan-key-only = false; accept-backdated-lease = false; omit-lease-root-epoch = false; ignore-collection-range-epoch = false; advance-collection-without-publication = false; ignore-collection-input-root = false }
+abbrev pub no-faults : PublicationAuthorityFaults
+no-faults = record {
+  publish-without-intent = false;
+  ignore-root-epoch = false;
+  ignore-delete-reservation = false;
+  ignore-root-compare = false;
+  allow-cross-generation-intent = false;
+  retire-by-plan-key-only = false;
+  accept-backdated-lease = false;
+  omit-lease-root-epoch = false;
+  ignore-collection-range-epoch = false;
+  advance-collection-without-publication = false;
+  ignore-collection-input-root = false;
+}
 
 -- PublicationAuthorityState
 pub record State : Type 0 where
@@ -122,65 +132,30 @@ pub record State : Type 0 where
   pub collection-root : Option Text
   pub collection-jobs : Map CollectionJobToken
 
--- One setter to a field: antt has no record update.
-abbrev pub set-revision : AuthorityPosition → State → State
-set-revision v s = record { format-version = s .format-version; revision = v; root-intent-epoch = s .root-intent-epoch; intents = s .intents; roots = s .roots; pins = s .pins; deletion-reservations = s .deletion-reservations; observed-commit-frontier = s .observed-commit-frontier; retention-window = s .retention-window; retention-policy-epoch = s .retention-policy-epoch; policy-floor = s .policy-floor; minimum-readable-version = s .minimum-readable-version; physically-collected-through = s .physically-collected-through; lease-clock-tick = s .lease-clock-tick; lease-epoch = s .lease-epoch; leases = s .leases; range-map-epoch = s .range-map-epoch; collection-root = s .collection-root; collection-jobs = s .collection-jobs }
-
-abbrev pub set-root-intent-epoch : ℕ → State → State
-set-root-intent-epoch v s = record { format-version = s .format-version; revision = s .revision; root-intent-epoch = v; intents = s .intents; roots = s .roots; pins = s .pins; deletion-reservations = s .deletion-reservations; observed-commit-frontier = s .observed-commit-frontier; retention-window = s .retention-window; retention-policy-epoch = s .retention-policy-epoch; policy-floor = s .policy-floor; minimum-readable-version = s .minimum-readable-version; physically-collected-through = s .physically-collected-through; lease-clock-tick = s .lease-clock-tick; lease-epoch = s .lease-epoch; leases = s .leases; range-map-epoch = s .range-map-epoch; collection-root = s .collection-root; collection-jobs = s .collection-jobs }
-
-abbrev pub set-intents : Map PreparedPublication → State → State
-set-intents v s = record { format-version = s .format-version; revision = s .revision; root-intent-epoch = s .root-intent-epoch; intents = v; roots = s .roots; pins = s .pins; deletion-reservations = s .deletion-reservations; observed-commit-frontier = s .observed-commit-frontier; retention-window = s .retention-window; retention-policy-epoch = s .retention-policy-epoch; policy-floor = s .policy-floor; minimum-readable-version = s .minimum-readable-version; physically-collected-through = s .physically-collected-through; lease-clock-tick = s .lease-clock-tick; lease-epoch = s .lease-epoch; leases = s .leases; range-map-epoch = s .range-map-epoch; collection-root = s .collection-root; collection-jobs = s .collection-jobs }
-
-abbrev pub set-roots : Map ObjectReference → State → State
-set-roots v s = record { format-version = s .format-version; revision = s .revision; root-intent-epoch = s .root-intent-epoch; intents = s .intents; roots = v; pins = s .pins; deletion-reservations = s .deletion-reservations; observed-commit-frontier = s .observed-commit-frontier; retention-window = s .retention-window; retention-policy-epoch = s .retention-policy-epoch; policy-floor = s .policy-floor; minimum-readable-version = s .minimum-readable-version; physically-collected-through = s .physically-collected-through; lease-clock-tick = s .lease-clock-tick; lease-epoch = s .lease-epoch; leases = s .leases; range-map-epoch = s .range-map-epoch; collection-root = s .collection-root; collection-jobs = s .collection-jobs }
-
-abbrev pub set-pins : Map ObjectReference → State → State
-set-pins v s = record { format-version = s .format-version; revision = s .revision; root-intent-epoch = s .root-intent-epoch; intents = s .intents; roots = s .roots; pins = v; deletion-reservations = s .deletion-reservations; observed-commit-frontier = s .observed-commit-frontier; retention-window = s .retention-window; retention-policy-epoch = s .retention-policy-epoch; policy-floor = s .policy-floor; minimum-readable-version = s .minimum-readable-version; physically-collected-through = s .physically-collected-through; lease-clock-tick = s .lease-clock-tick; lease-epoch = s .lease-epoch; leases = s .leases; range-map-epoch = s .range-map-epoch; collection-root = s .collection-root; collection-jobs = s .collection-jobs }
-
-abbrev pub set-deletion-reservations : Map DeletePermit → State → State
-set-deletion-reservations v s = record { format-version = s .format-version; revision = s .revision; root-intent-epoch = s .root-intent-epoch; intents = s .intents; roots = s .roots; pins = s .pins; deletion-reservations = v; observed-commit-frontier = s .observed-commit-frontier; retention-window = s .retention-window; retention-policy-epoch = s .retention-policy-epoch; policy-floor = s .policy-floor; minimum-readable-version = s .minimum-readable-version; physically-collected-through = s .physically-collected-through; lease-clock-tick = s .lease-clock-tick; lease-epoch = s .lease-epoch; leases = s .leases; range-map-epoch = s .range-map-epoch; collection-root = s .collection-root; collection-jobs = s .collection-jobs }
-
-abbrev pub set-observed-commit-frontier : ℕ → State → State
-set-observed-commit-frontier v s = record { format-version = s .format-version; revision = s .revision; root-intent-epoch = s .root-intent-epoch; intents = s .intents; roots = s .roots; pins = s .pins; deletion-reservations = s .deletion-reservations; observed-commit-frontier = v; retention-window = s .retention-window; retention-policy-epoch = s .retention-policy-epoch; policy-floor = s .policy-floor; minimum-readable-version = s .minimum-readable-version; physically-collected-through = s .physically-collected-through; lease-clock-tick = s .lease-clock-tick; lease-epoch = s .lease-epoch; leases = s .leases; range-map-epoch = s .range-map-epoch; collection-root = s .collection-root; collection-jobs = s .collection-jobs }
-
-abbrev pub set-retention-window : Option ℕ → State → State
-set-retention-window v s = record { format-version = s .format-version; revision = s .revision; root-intent-epoch = s .root-intent-epoch; intents = s .intents; roots = s .roots; pins = s .pins; deletion-reservations = s .deletion-reservations; observed-commit-frontier = s .observed-commit-frontier; retention-window = v; retention-policy-epoch = s .retention-policy-epoch; policy-floor = s .policy-floor; minimum-readable-version = s .minimum-readable-version; physically-collected-through = s .physically-collected-through; lease-clock-tick = s .lease-clock-tick; lease-epoch = s .lease-epoch; leases = s .leases; range-map-epoch = s .range-map-epoch; collection-root = s .collection-root; collection-jobs = s .collection-jobs }
-
-abbrev pub set-retention-policy-epoch : ℕ → State → State
-set-retention-policy-epoch v s = record { format-version = s .format-version; revision = s .revision; root-intent-epoch = s .root-intent-epoch; intents = s .intents; roots = s .roots; pins = s .pins; deletion-reservations = s .deletion-reservations; observed-commit-frontier = s .observed-commit-frontier; retention-window = s .retention-window; retention-policy-epoch = v; policy-floor = s .policy-floor; minimum-readable-version = s .minimum-readable-version; physically-collected-through = s .physically-collected-through; lease-clock-tick = s .lease-clock-tick; lease-epoch = s .lease-epoch; leases = s .leases; range-map-epoch = s .range-map-epoch; collection-root = s .collection-root; collection-jobs = s .collection-jobs }
-
-abbrev pub set-policy-floor : ℕ → State → State
-set-policy-floor v s = record { format-version = s .format-version; revision = s .revision; root-intent-epoch = s .root-intent-epoch; intents = s .intents; roots = s .roots; pins = s .pins; deletion-reservations = s .deletion-reservations; observed-commit-frontier = s .observed-commit-frontier; retention-window = s .retention-window; retention-policy-epoch = s .retention-policy-epoch; policy-floor = v; minimum-readable-version = s .minimum-readable-version; physically-collected-through = s .physically-collected-through; lease-clock-tick = s .lease-clock-tick; lease-epoch = s .lease-epoch; leases = s .leases; range-map-epoch = s .range-map-epoch; collection-root = s .collection-root; collection-jobs = s .collection-jobs }
-
-abbrev pub set-minimum-readable-version : ℕ → State → State
-set-minimum-readable-version v s = record { format-version = s .format-version; revision = s .revision; root-intent-epoch = s .root-intent-epoch; intents = s .intents; roots = s .roots; pins = s .pins; deletion-reservations = s .deletion-reservations; observed-commit-frontier = s .observed-commit-frontier; retention-window = s .retention-window; retention-policy-epoch = s .retention-policy-epoch; policy-floor = s .policy-floor; minimum-readable-version = v; physically-collected-through = s .physically-collected-through; lease-clock-tick = s .lease-clock-tick; lease-epoch = s .lease-epoch; leases = s .leases; range-map-epoch = s .range-map-epoch; collection-root = s .collection-root; collection-jobs = s .collection-jobs }
-
-abbrev pub set-physically-collected-through : ℕ → State → State
-set-physically-collected-through v s = record { format-version = s .format-version; revision = s .revision; root-intent-epoch = s .root-intent-epoch; intents = s .intents; roots = s .roots; pins = s .pins; deletion-reservations = s .deletion-reservations; observed-commit-frontier = s .observed-commit-frontier; retention-window = s .retention-window; retention-policy-epoch = s .retention-policy-epoch; policy-floor = s .policy-floor; minimum-readable-version = s .minimum-readable-version; physically-collected-through = v; lease-clock-tick = s .lease-clock-tick; lease-epoch = s .lease-epoch; leases = s .leases; range-map-epoch = s .range-map-epoch; collection-root = s .collection-root; collection-jobs = s .collection-jobs }
-
-abbrev pub set-lease-clock-tick : ℕ → State → State
-set-lease-clock-tick v s = record { format-version = s .format-version; revision = s .revision; root-intent-epoch = s .root-intent-epoch; intents = s .intents; roots = s .roots; pins = s .pins; deletion-reservations = s .deletion-reservations; observed-commit-frontier = s .observed-commit-frontier; retention-window = s .retention-window; retention-policy-epoch = s .retention-policy-epoch; policy-floor = s .policy-floor; minimum-readable-version = s .minimum-readable-version; physically-collected-through = s .physically-collected-through; lease-clock-tick = v; lease-epoch = s .lease-epoch; leases = s .leases; range-map-epoch = s .range-map-epoch; collection-root = s .collection-root; collection-jobs = s .collection-jobs }
-
-abbrev pub set-lease-epoch : ℕ → State → State
-set-lease-epoch v s = record { format-version = s .format-version; revision = s .revision; root-intent-epoch = s .root-intent-epoch; intents = s .intents; roots = s .roots; pins = s .pins; deletion-reservations = s .deletion-reservations; observed-commit-frontier = s .observed-commit-frontier; retention-window = s .retention-window; retention-policy-epoch = s .retention-policy-epoch; policy-floor = s .policy-floor; minimum-readable-version = s .minimum-readable-version; physically-collected-through = s .physically-collected-through; lease-clock-tick = s .lease-clock-tick; lease-epoch = v; leases = s .leases; range-map-epoch = s .range-map-epoch; collection-root = s .collection-root; collection-jobs = s .collection-jobs }
-
-abbrev pub set-leases : Map SnapshotLeaseToken → State → State
-set-leases v s = record { format-version = s .format-version; revision = s .revision; root-intent-epoch = s .root-intent-epoch; intents = s .intents; roots = s .roots; pins = s .pins; deletion-reservations = s .deletion-reservations; observed-commit-frontier = s .observed-commit-frontier; retention-window = s .retention-window; retention-policy-epoch = s .retention-policy-epoch; policy-floor = s .policy-floor; minimum-readable-version = s .minimum-readable-version; physically-collected-through = s .physically-collected-through; lease-clock-tick = s .lease-clock-tick; lease-epoch = s .lease-epoch; leases = v; range-map-epoch = s .range-map-epoch; collection-root = s .collection-root; collection-jobs = s .collection-jobs }
-
-abbrev pub set-range-map-epoch : ℕ → State → State
-set-range-map-epoch v s = record { format-version = s .format-version; revision = s .revision; root-intent-epoch = s .root-intent-epoch; intents = s .intents; roots = s .roots; pins = s .pins; deletion-reservations = s .deletion-reservations; observed-commit-frontier = s .observed-commit-frontier; retention-window = s .retention-window; retention-policy-epoch = s .retention-policy-epoch; policy-floor = s .policy-floor; minimum-readable-version = s .minimum-readable-version; physically-collected-through = s .physically-collected-through; lease-clock-tick = s .lease-clock-tick; lease-epoch = s .lease-epoch; leases = s .leases; range-map-epoch = v; collection-root = s .collection-root; collection-jobs = s .collection-jobs }
-
-abbrev pub set-collection-root : Option Text → State → State
-set-collection-root v s = record { format-version = s .format-version; revision = s .revision; root-intent-epoch = s .root-intent-epoch; intents = s .intents; roots = s .roots; pins = s .pins; deletion-reservations = s .deletion-reservations; observed-commit-frontier = s .observed-commit-frontier; retention-window = s .retention-window; retention-policy-epoch = s .retention-policy-epoch; policy-floor = s .policy-floor; minimum-readable-version = s .minimum-readable-version; physically-collected-through = s .physically-collected-through; lease-clock-tick = s .lease-clock-tick; lease-epoch = s .lease-epoch; leases = s .leases; range-map-epoch = s .range-map-epoch; collection-root = v; collection-jobs = s .collection-jobs }
-
-abbrev pub set-collection-jobs : Map CollectionJobToken → State → State
-set-collection-jobs v s = record { format-version = s .format-version; revision = s .revision; root-intent-epoch = s .root-intent-epoch; intents = s .intents; roots = s .roots; pins = s .pins; deletion-reservations = s .deletion-reservations; observed-commit-frontier = s .observed-commit-frontier; retention-window = s .retention-window; retention-policy-epoch = s .retention-policy-epoch; policy-floor = s .policy-floor; minimum-readable-version = s .minimum-readable-version; physically-collected-through = s .physically-collected-through; lease-clock-tick = s .lease-clock-tick; lease-epoch = s .lease-epoch; leases = s .leases; range-map-epoch = s .range-map-epoch; collection-root = s .collection-root; collection-jobs = v }
-
 abbrev pub default : State
-default = record { format-version = 1; revision = record { term = 0; index = 0 }; root-intent-epoch = 0; intents = []; roots = []; pins = []; deletion-reservations = []; observed-commit-frontier = 0; retention-window = none; retention-policy-epoch = 0; policy-floor = 0; minimum-readable-version = 0; physically-collected-through = 0; lease-clock-tick = 0; lease-epoch = 0; leases = []; range-map-epoch = 0; collection-root = none; collection-jobs = [] }
+default = record {
+  format-version = 1;
+  revision = record { term = 0; index = 0 };
+  root-intent-epoch = 0;
+  intents = [];
+  roots = [];
+  pins = [];
+  deletion-reservations = [];
+  observed-commit-frontier = 0;
+  retention-window = none;
+  retention-policy-epoch = 0;
+  policy-floor = 0;
+  minimum-readable-version = 0;
+  physically-collected-through = 0;
+  lease-clock-tick = 0;
+  lease-epoch = 0;
+  leases = [];
+  range-map-epoch = 0;
+  collection-root = none;
+  collection-jobs = [];
+}
 
--- `==`, field by field: true if every test of a list is.
+-- `==`, FIELD BY FIELD: true if every test of a list is.
 unfoldable pub every : List Bool → Bool
 every [] = true
 every (b ∷ bs) = b && every bs
@@ -227,22 +202,23 @@ permit-eq a b = every (
     same (a .key) (b .key) ∷ identity-eq (a .identity) (b .identity) ∷ same (a .plan-id) (b .plan-id)
     ∷ eqb (a .owner-generation) (b .owner-generation) ∷ position-eq (a .authority-position) (b .authority-position) ∷ [])
 
--- the `is_valid` tests
-abbrev pub is-hex-digit : ℕ → Bool
-is-hex-digit b = (leb 48 b && leb b 57) || (leb 97 b && leb b 102)
+-- THE `is_valid` TESTS
+unfoldable pub valid-context : AuthorityContext → Bool
+valid-context c = not (eqb (c .generation) 0) && not (eqb (c .position .index) 0)
 
-unfoldable pub valid-sha256 : Text → Bool
-valid-sha256 t = eqb (length t) 64 && all is-hex-digit t
+unfoldable pub valid-identity : ObjectIdentity → Bool
+valid-identity i = sha256Of (i .sha256)
+
+abbrev pub named : Text → Bool
+named k = not (is-empty k)
 
 abbrev pub is-manifest : ObjectReference → Bool
 is-manifest r = kind-eq (r .kind) Manifest
 
 unfoldable pub valid-reference : ObjectReference → Bool
-valid-reference r = not (is-empty (r .key)) && valid-sha256 (r .sha256)
+valid-reference r = named (r .key) && sha256Of (r .sha256)
 
-abbrev pub named : Text → Bool
-named k = not (is-empty k)
-
+-- is_none_or(ObjectReference::is_valid)
 abbrev pub valid-prior : Option ObjectReference → Bool
 valid-prior none = true
 valid-prior (some r) = valid-reference r
@@ -257,6 +233,11 @@ valid-closure c = every (
     is-manifest (c .manifest) ∷ valid-reference (c .manifest)
     ∷ contains (c .manifest .key) (c .object-keys) ∷ all named (c .object-keys) ∷ [])
 
+-- SnapshotClosure::names
+abbrev pub names : SnapshotClosure → Text → Bool
+names c key = contains key (c .object-keys)
+
+-- a key equal to the namespace passes
 unfoldable pub valid-receipt : CollectionReceipt → Bool
 valid-receipt r = every (
     is-manifest (r .output-manifest) ∷ valid-reference (r .output-manifest)
