@@ -1,0 +1,161 @@
+-- The starred edges E2 to E10 of the scope paper, as rows of one table, by one theorem. (E1 is about the image.)
+-- Faults off, generation 1; window 3 and frontier 10 stand before every row but E7's.
+use Prim.Native.Nat.{ℕ}
+use mathlib.Core.Path.{_≡_, refl}
+use mathlib.Core.List.{List, [], _∷_}
+use mathlib.Core.Option.{Option, none, some}
+use mathlib.Core.Bool.{Bool, true, false, _&&_}
+use lib.Dec.{eqb}
+use lib.ListN.{replicate, length}
+use Rattle.text.specs.Order.{orderOf}
+use Rattle.text.specs.Same.{sameOf, prefixOf, endsWithOf, within, hexOf, allHex, sha256Of}
+use Rattle.state.specs.Maps.{Text, same-texts, all, any, lookup, insert, remove, remove-all, any-value, keys-where, is-empty}
+use Rattle.state.specs.Records.{AuthorityContext, no-faults, Manifest, ObjectReference, ObjectIdentity, SnapshotClosure, SnapshotLeaseToken, State, default, every, reference-eq, lease-eq, closure-eq, position-eq, valid-context, valid-identity, valid-reference, valid-intent, valid-closure}
+use Rattle.state.specs.Setters.{set-leases, set-lease-clock-tick}
+use Rattle.machine.specs.Actions.{Action, ObserveCommittedFrontier, SetRetentionWindow, ObserveRangeMapEpoch, ConfigureCollectionRoot, AcquireLease, ReleaseLease, AdvanceLeaseClock, PrepareCollection, Prepare, Publish, ReserveDelete, Outcome, Applied, DeleteReserved, LeaseAcquired, LeaseRenewed, LeasesExpired, CollectionPrepared, CollectionPublished, Transition, rejected, accepted, decide}
+use Rattle.machine.specs.Next.{up, oldest, policy-for, readable-for, moved}
+use Rattle.machine.specs.Machine.{observe-committed-frontier, set-retention-window, observe-range-map-epoch, configure-collection-root, acquire-lease, release-lease, advance-lease-clock, conflicts, prepare-collection, prepare, intent-matches, publish, reserve-delete, act, rule, stamp, apply, validate-found, validate}
+
+abbrev context : ℕ → ℕ → ℕ → AuthorityContext
+context generation term index = record { generation = generation; position = record { term = term; index = index } }
+
+abbrev answer : State → Action → Transition
+answer s a = apply s a (context 1 1 1) no-faults
+
+abbrev status : Transition → ℕ
+status (rejected n) = n
+status (accepted s o) = 0
+
+-- the state after calls that are all accepted
+abbrev next : Transition → Option State
+next (rejected n) = none
+next (accepted s o) = some s
+
+abbrev step : Action → Option State → Option State
+step a none = none
+step a (some s) = next (answer s a)
+
+abbrev run : Option State → List Action → Option State
+run o [] = o
+run o (a ∷ calls) = run (step a o) calls
+
+abbrev start : Option State
+start = run (some default) (SetRetentionWindow 0 3 ∷ ObserveCommittedFrontier 10 ∷ [])
+
+abbrev ids : Outcome → List Text
+ids (LeasesExpired l) = l
+ids Applied = []
+ids (DeleteReserved p) = []
+ids (LeaseAcquired t) = []
+ids (LeaseRenewed t) = []
+ids (CollectionPrepared t) = []
+ids (CollectionPublished r) = []
+
+-- accepted, with these ids in its outcome, and no lease is left
+abbrev ends-all : List Text → Transition → Bool
+ends-all l (rejected n) = false
+ends-all l (accepted s o) = same-texts (ids o) l && is-empty (s .leases)
+
+abbrev test : (State → Bool) → Option State → Bool
+test p none = false
+test p (some s) = p s
+
+pub data Row : Type 0 where
+  answers : (before : List Action) (call : Action) (number : ℕ) → Row
+  answers-at : (context : AuthorityContext) (call : Action) (number : ℕ) → Row
+  floors : (before : List Action) (policy readable : ℕ) → Row
+  ends : (before : List Action) (call : Action) (lease-ids : List Text) → Row
+  collects : (before : List Action) (collected readable jobs : ℕ) → Row
+  validates : (state : State) (token : SnapshotLeaseToken) (number : ℕ) → Row
+
+abbrev pub holds : Row → Bool
+holds (answers before a n) = test (λ s. eqb (status (answer s a)) n) (run start before)
+holds (answers-at c a n) = test (λ s. eqb (status (apply s a c no-faults)) n) start
+holds (floors before p r) = test (λ s. eqb (s .policy-floor) p && eqb (s .minimum-readable-version) r) (run start before)
+holds (ends before a l) = test (λ s. ends-all l (answer s a)) (run start before)
+holds (collects before c r j) = test (λ s. eqb (s .physically-collected-through) c && eqb (s .minimum-readable-version) r && eqb (length (s .collection-jobs)) j) (run start before)
+holds (validates s t n) = eqb (validate s t) n
+
+-- WHAT THE ROWS NAME
+abbrev hash : Text
+hash = replicate 64 97
+
+abbrev manifest : ObjectReference
+manifest = record { kind = Manifest; key = 109 ∷ []; length = 1; sha256 = hash }
+
+abbrev key : Text
+key = 107 ∷ []
+
+abbrev closure : SnapshotClosure
+closure = record { manifest = manifest; object-keys = key ∷ (109 ∷ []) ∷ [] }
+
+abbrev id : Text
+id = 105 ∷ []
+
+abbrev lease : (version deadline : ℕ) → Action
+lease version deadline = AcquireLease id (116 ∷ []) version (111 ∷ []) (112 ∷ []) deadline closure
+
+abbrev reserve : (mark-epoch : ℕ) → Action
+reserve mark-epoch = ReserveDelete (112 ∷ []) mark-epoch key (record { revision = record { e-tag = none; version = none }; length = 1; sha256 = hash })
+
+-- a lease with deadline 5, in a state whose clock is 5
+abbrev token : SnapshotLeaseToken
+token = record { lease-id = id; tenant-id = 116 ∷ []; snapshot-version = 7; lease-epoch = 1; owner = 111 ∷ []; purpose = 112 ∷ []; deadline-tick = 5; closure = closure; owner-generation = 1; authority-position = record { term = 1; index = 1 } }
+
+abbrev loaded : State
+loaded = set-leases (insert id token []) (set-lease-clock-tick 5 default)
+
+abbrev root : Text
+root = 114 ∷ []
+
+-- a root with its manifest, set as the collection root, and a range map epoch: all that `collect` has to match
+abbrev collecting : List Action
+collecting =
+    Prepare (112 ∷ []) (record { object-keys = (109 ∷ []) ∷ []; manifest = manifest; destination-root = root; expected-prior-root = none })
+    ∷ Publish (112 ∷ []) root none manifest
+    ∷ ConfigureCollectionRoot none root
+    ∷ ObserveRangeMapEpoch 1
+    ∷ []
+
+abbrev collect : (frozen-floor : ℕ) → Action
+collect frozen-floor = PrepareCollection (106 ∷ []) frozen-floor manifest root 1 0 (111 ∷ 47 ∷ [])
+
+abbrev pub table : List Row
+table =
+    -- E2: frontier 0, equal, 9
+    answers [] (ObserveCommittedFrontier 0) 2
+    ∷ answers [] (ObserveCommittedFrontier 10) 0
+    ∷ answers [] (ObserveCommittedFrontier 9) 16
+    -- E3: both floors 7, and after window 20 still
+    ∷ floors [] 7 7
+    ∷ floors (SetRetentionWindow 1 20 ∷ []) 7 7
+    -- E4: a lease at 6, 7, 10, 11
+    ∷ answers [] (lease 6 9) 19
+    ∷ answers [] (lease 7 9) 0
+    ∷ answers [] (lease 10 9) 0
+    ∷ answers [] (lease 11 9) 20
+    -- E5: clock 5, deadline 5 and 6; clock to 6 removes it and lists it
+    ∷ answers (AdvanceLeaseClock 0 5 ∷ []) (lease 7 5) 24
+    ∷ answers (AdvanceLeaseClock 0 5 ∷ []) (lease 7 6) 0
+    ∷ ends (AdvanceLeaseClock 0 5 ∷ lease 7 6 ∷ []) (AdvanceLeaseClock 5 6) (id ∷ [])
+    -- E6: a lease at 8 and frontier 20; released
+    ∷ floors (lease 8 9 ∷ ObserveCommittedFrontier 20 ∷ []) 17 8
+    ∷ floors (lease 8 9 ∷ ObserveCommittedFrontier 20 ∷ ReleaseLease id 1 ∷ []) 17 17
+    -- E7: a loaded state with its clock at a lease's deadline
+    ∷ validates loaded token 4
+    -- E8: collected 0, readable 7, no jobs, all else matching: frozen floor 7 and 8
+    ∷ collects collecting 0 7 0
+    ∷ answers collecting (collect 7) 0
+    ∷ answers collecting (collect 8) 33
+    -- E9: a key that a lease names, mark epoch current; a reserved key in a new lease
+    ∷ answers (lease 7 9 ∷ []) (reserve 1) 11
+    ∷ answers (reserve 0 ∷ []) (lease 7 9) 0
+    -- E10: index 0, generation 0, term 0
+    ∷ answers-at (context 1 1 0) (ObserveCommittedFrontier 10) 2
+    ∷ answers-at (context 0 1 1) (ObserveCommittedFrontier 10) 2
+    ∷ answers-at (context 1 0 1) (ObserveCommittedFrontier 10) 0
+    ∷ []
+
+pub edges : all holds table ≡ true
+unfolding orderOf sameOf prefixOf within hexOf allHex sha256Of all any lookup insert remove remove-all any-value keys-where endsWithOf same-texts every reference-eq lease-eq closure-eq position-eq valid-context valid-identity valid-reference valid-intent valid-closure decide up oldest policy-for readable-for moved observe-committed-frontier set-retention-window observe-range-map-epoch configure-collection-root acquire-lease release-lease advance-lease-clock conflicts prepare-collection prepare intent-matches publish reserve-delete act rule stamp apply validate-found validate
+edges = refl
