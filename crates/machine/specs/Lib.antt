@@ -3,3 +3,8 @@ pub mod Actions
 pub mod Next
 pub mod Machine
 pub mod Edges
+pub mod Ledger
+pub mod Claims
+pub mod Linked
+pub mod Invariant
+pub mod History

@@ -1,0 +1,81 @@
+-- DEMAND 3, the statement: machines, their moments, and what is claimed of two moments.
+use Prim.Native.Nat.{ℕ, _≤_}
+use mathlib.Core.Path.{_≡_, refl}
+use mathlib.Core.Logic.{_↔_}
+use mathlib.Core.List.{List, [], _∷_, List·Memᴰ}
+use mathlib.Core.Option.{Option, none, some}
+use mathlib.Core.Bool.{false}
+use Rattle.state.specs.Maps.{Text, lookup}
+use Rattle.state.specs.Records.{AuthorityContext, no-faults, State, SnapshotLeaseToken, DeletePermit, names}
+use Rattle.machine.specs.Actions.{accepted}
+use Rattle.machine.specs.Machine.{apply, validate}
+use Rattle.machine.specs.Ledger.{Event, refused, took, issued, Lease, Ledger, empty, after, Last}
+
+-- ONE CALL on a state: a refusal of any kind changes nothing; an acceptance is that of `apply`, with no fault flag.
+abbrev pub Step : State → Event → State → Type 0
+Step s refused s′ = s ≡ s′
+Step s (took a o) s′ = (c : AuthorityContext) × (apply s a c no-faults ≡ accepted s′ o)
+
+-- A MACHINE: an image is what a call reads and leaves, a request what it is given, a token what is shown for validation.
+-- Over plain maps these are the state, an action with its context, and a lease token; over bytes all three are bytes.
+pub record Machine : Type 1 where
+  pub Image : Type 0
+  pub Request : Type 0
+  pub Token : Type 0
+  -- the image that the next call reads, and what the caller was told
+  pub call : Image → Request → Image
+  pub told : Image → Request → Event
+  -- what validation answers, and the lease token that a shown token spells, if any
+  pub check : Image → Token → ℕ
+  pub spells : Token → Option SnapshotLeaseToken
+  -- the state that an image holds
+  pub Holds : Image → State → Type 0
+  -- each call is a step, and validation is that of the state
+  pub steps : (x : Image) (s : State) → Holds x s → (r : Request) → (s′ : State) × Step s (told x r) s′ × Holds (call x r) s′
+  pub checks : (x : Image) (s : State) → Holds x s → (t : Token) → (check x t ≡ 0) ↔ ((u : SnapshotLeaseToken) × (spells t ≡ some u) × (validate s u ≡ 0))
+
+-- MOMENTS: after a list of requests, the image, what they told, and the ledger of leases
+module _ (M : Machine) where
+  abbrev pub image : M .Image → List (M .Request) → M .Image
+  image x [] = x
+  image x (r ∷ rs) = image (M .call x r) rs
+
+  abbrev pub events : M .Image → List (M .Request) → List Event
+  events x [] = []
+  events x (r ∷ rs) = M .told x r ∷ events (M .call x r) rs
+
+  abbrev pub ledger : M .Image → List (M .Request) → Ledger
+  ledger x rs = after empty (events x rs)
+
+pub record Rises (s₁ s₂ : State) : Type 0 where
+  pub frontier : s₁ .observed-commit-frontier ≤ s₂ .observed-commit-frontier
+  pub policy : s₁ .policy-floor ≤ s₂ .policy-floor
+  pub readable : s₁ .minimum-readable-version ≤ s₂ .minimum-readable-version
+  pub collected : s₁ .physically-collected-through ≤ s₂ .physically-collected-through
+  pub clock : s₁ .lease-clock-tick ≤ s₂ .lease-clock-tick
+
+pub record Ordered (s : State) : Type 0 where
+  pub collected≤readable : s .physically-collected-through ≤ s .minimum-readable-version
+  pub readable≤policy : s .minimum-readable-version ≤ s .policy-floor
+  pub policy≤frontier : s .policy-floor ≤ s .observed-commit-frontier
+
+-- THE CLAIMS, of two moments of one list of calls. At the first the state is s₁ and the ledger L₁; at the second, not before
+-- it, the image is x₂, the state s₂ and the ledger L₂. They are proved for every two moments, so what is said of the second
+-- alone holds at each.
+pub record Claims (M : Machine) (s₁ : State) (L₁ : Ledger) (x₂ : M .Image) (s₂ : State) (L₂ : Ledger) : Type 0 where
+  -- The five numbers of the scalars never fall from the one moment to the other.
+  pub never-fall : Rises s₁ s₂
+  -- Their order stands at both moments.
+  pub ordered₁ : Ordered s₁
+  pub ordered₂ : Ordered s₂
+  -- The version of each live lease, the one its first request asked for, is from minimum readable to frontier, both included.
+  pub in-range : (id : Text) (l : Lease) → lookup id (L₂ .live) ≡ some l
+      → (s₂ .minimum-readable-version ≤ l .version) × (l .version ≤ s₂ .observed-commit-frontier)
+  -- No call from here issues a delete permit for a key that a live lease names. The paper lets pass one that was stored since
+  -- before the lease began; this is stronger, since no permit at all is issued: a stored one is never issued again.
+  pub no-permit : (id : Text) (l : Lease) → lookup id (L₂ .live) ≡ some l
+      → (r : M .Request) (p : DeletePermit) → issued (M .told x₂ r) ≡ some p → names (l .closure) (p .key) ≡ false
+  -- A shown token validates exactly when it spells the last token given for a lease that is live.
+  pub validates : (t : M .Token) → (M .check x₂ t ≡ 0) ↔ ((u : SnapshotLeaseToken) × (M .spells t ≡ some u) × Last u L₂)
+  -- A token of a lease that had ended by the first moment validates at no later one, though its id be live anew.
+  pub never-again : (t : M .Token) (u : SnapshotLeaseToken) → M .spells t ≡ some u → List·Memᴰ u (L₁ .ended) → M .check x₂ t ≡ 0 → ⊥
