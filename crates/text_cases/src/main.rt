@@ -1,0 +1,168 @@
+// Runs the text layer on the cases of standard input, a line each, and writes each line with its answer.
+//
+//   u HEX         is_utf8 of the bytes that HEX writes
+//   l HEX         is_utf8 of each byte from 00 to FF with the bytes that HEX writes after it: a digit each
+//   h TEXT        valid_sha256
+//   c TEXT TEXT   compare
+//   s TEXT TEXT   same
+//   p TEXT TEXT   starts_with: whether the first begins with the second
+//   e TEXT B      ends_with_byte
+//
+// Any other line is written as it is.
+use libc::STDOUT_FILENO;
+use text::Order;
+ghost use Prim.Native.Nat.{_≤_, _*_};
+ghost use lib.ListN.{length};
+
+fn write(s: &[u8]) {
+    io::write_all(STDOUT_FILENO, s);
+}
+
+fn write_bool(yes: bool) {
+    if yes {
+        write(b" yes");
+    } else {
+        write(b" no");
+    }
+}
+
+fn write_order(o: Order) {
+    match o {
+        Order::Less => write(b" less"),
+        Order::Equal => write(b" equal"),
+        Order::Greater => write(b" greater"),
+    }
+}
+
+// Where b first stands in s, or the length of s.
+fn find(s: &[u8], b: u8) -> usize
+    ensures { λ r. ⌜ r ≤ length (now (s .entry)) ⌝ }
+{
+    let mut i = 0;
+    while i < s.len() {
+        if s[i] == b {
+            return i;
+        }
+        i += 1;
+    }
+    i
+}
+
+// The value of a hex digit, and 0 of any other byte.
+fn digit(x: u8) -> u8
+    ensures { λ r. ⌜ r ≤ 15 ⌝ }
+{
+    match x {
+        b'0'..=b'9' => x - b'0',
+        b'A'..=b'F' => x - b'A' + 10,
+        _ => 0,
+    }
+}
+
+// The byte that two hex digits write.
+fn byte(high: u8, low: u8) -> u8 {
+    digit(high) * 16 + digit(low)
+}
+
+// How many bytes n hex digits write, up to 8.
+fn pairs(n: usize) -> usize
+    ensures { λ r. ⌜ (r ≤ 8) × (2 * r ≤ n) ⌝ }
+{
+    if 16 <= n { 8 } else { n / 2 }
+}
+
+// is_utf8 of first and up to 8 bytes that hex writes.
+fn after(first: u8, hex: &[u8]) -> bool {
+    let mut text = [0u8; 9];
+    text[0] = first;
+    let n = pairs(hex.len());
+    let mut i = 0;
+    while i < n {
+        text[i + 1] = byte(hex[2 * i], hex[2 * i + 1]);
+        i += 1;
+    }
+    let end = n + 1;
+    text::is_utf8(&text[0..end])
+}
+
+fn from_hex(hex: &[u8]) -> bool {
+    if hex.len() < 2 {
+        return text::is_utf8(b"");
+    }
+    after(byte(hex[0], hex[1]), &hex[2..])
+}
+
+fn each_lead(hex: &[u8]) {
+    write(b" ");
+    let mut x: u8 = 0;
+    while x < 255 {
+        write_digit(after(x, hex));
+        x += 1;
+    }
+    write_digit(after(255, hex));
+}
+
+fn write_digit(yes: bool) {
+    if yes {
+        write(b"1");
+    } else {
+        write(b"0");
+    }
+}
+
+fn ends_with(s: &[u8], b: &[u8]) -> bool {
+    if b.len() == 0 {
+        return false;
+    }
+    text::ends_with_byte(s, b[0])
+}
+
+// The answer to a case of two texts with a space between.
+fn two_texts(case: u8, s: &[u8]) {
+    let at = find(s, b' ');
+    if at == s.len() {
+        return;
+    }
+    let next = at + 1;
+    let a = &s[0..at];
+    let b = &s[next..];
+    match case {
+        b'c' => write_order(text::compare(a, b)),
+        b's' => write_bool(text::same(a, b)),
+        b'p' => write_bool(text::starts_with(a, b)),
+        b'e' => write_bool(ends_with(a, b)),
+        _ => {}
+    }
+}
+
+fn answer(line: &[u8]) {
+    if line.len() < 2 {
+        return;
+    }
+    let rest = &line[2..];
+    let case = line[0];
+    match case {
+        b'u' => write_bool(from_hex(rest)),
+        b'l' => each_lead(rest),
+        b'h' => write_bool(text::valid_sha256(rest)),
+        _ => two_texts(case, rest),
+    }
+}
+
+fn each_line(s: &[u8]) {
+    let mut i = 0;
+    while i < s.len() {
+        let end = i + find(&s[i..], b'\n');
+        let line = &s[i..end];
+        write(line);
+        answer(line);
+        write(b"\n");
+        i = end + 1;
+    }
+}
+
+fn main() {
+    let mut input = io::large_buffer();
+    let n = io::read_full(0, &mut input);
+    each_line(&input[..n]);
+}
