@@ -47,27 +47,38 @@ module _ (M : Machine) where
   abbrev pub ledger : M .Image → List (M .Request) → Ledger
   ledger x rs = after empty (events x rs)
 
-pub record Rises (s₁ s₂ : State) : Type 0 where
-  pub frontier : s₁ .observed-commit-frontier ≤ s₂ .observed-commit-frontier
-  pub policy : s₁ .policy-floor ≤ s₂ .policy-floor
-  pub readable : s₁ .minimum-readable-version ≤ s₂ .minimum-readable-version
-  pub collected : s₁ .physically-collected-through ≤ s₂ .physically-collected-through
-  pub clock : s₁ .lease-clock-tick ≤ s₂ .lease-clock-tick
+-- THE FIVE NUMBERS of the scalars that the claims speak of
+pub record Five : Type 0 where
+  pub frontier : ℕ
+  pub policy : ℕ
+  pub readable : ℕ
+  pub collected : ℕ
+  pub clock : ℕ
 
-pub record Ordered (s : State) : Type 0 where
-  pub collected≤readable : s .physically-collected-through ≤ s .minimum-readable-version
-  pub readable≤policy : s .minimum-readable-version ≤ s .policy-floor
-  pub policy≤frontier : s .policy-floor ≤ s .observed-commit-frontier
+abbrev pub five-of : State → Five
+five-of s = record { frontier = s .observed-commit-frontier; policy = s .policy-floor; readable = s .minimum-readable-version; collected = s .physically-collected-through; clock = s .lease-clock-tick }
+
+pub record Rises (a b : Five) : Type 0 where
+  pub frontier : a .frontier ≤ b .frontier
+  pub policy : a .policy ≤ b .policy
+  pub readable : a .readable ≤ b .readable
+  pub collected : a .collected ≤ b .collected
+  pub clock : a .clock ≤ b .clock
+
+pub record Ordered (a : Five) : Type 0 where
+  pub collected≤readable : a .collected ≤ a .readable
+  pub readable≤policy : a .readable ≤ a .policy
+  pub policy≤frontier : a .policy ≤ a .frontier
 
 -- THE CLAIMS, of two moments of one list of calls. At the first the state is s₁ and the ledger L₁; at the second, not before
 -- it, the image is x₂, the state s₂ and the ledger L₂. They are proved for every two moments, so what is said of the second
 -- alone holds at each.
 pub record Claims (M : Machine) (s₁ : State) (L₁ : Ledger) (x₂ : M .Image) (s₂ : State) (L₂ : Ledger) : Type 0 where
   -- The five numbers of the scalars never fall from the one moment to the other.
-  pub never-fall : Rises s₁ s₂
+  pub never-fall : Rises (five-of s₁) (five-of s₂)
   -- Their order stands at both moments.
-  pub ordered₁ : Ordered s₁
-  pub ordered₂ : Ordered s₂
+  pub ordered₁ : Ordered (five-of s₁)
+  pub ordered₂ : Ordered (five-of s₂)
   -- The version of each live lease, the one its first request asked for, is from minimum readable to frontier, both included.
   pub in-range : (id : Text) (l : Lease) → lookup id (L₂ .live) ≡ some l
       → (s₂ .minimum-readable-version ≤ l .version) × (l .version ≤ s₂ .observed-commit-frontier)

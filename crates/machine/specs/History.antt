@@ -21,9 +21,9 @@ use Rattle.machine.specs.Actions.{Action, Outcome, Transition, rejected,
 use Rattle.machine.specs.Next.{top}
 use Rattle.machine.specs.Machine.{rule, stamp, apply, validate-found, validate}
 use Rattle.machine.specs.Ledger.{Event, refused, took, permit-in, issued, Lease, Ledger, empty, note, after, Last}
-use Rattle.machine.specs.Claims.{Step, Machine, image, events, ledger, Rises, Ordered, Claims}
+use Rattle.machine.specs.Claims.{Step, Machine, image, events, ledger, five-of, Rises, Claims}
 use Rattle.machine.specs.Linked.{linked-live, linked-some, after-ended}
-use Rattle.machine.specs.Invariant.{Core, core, CoreRises, rises-trans, rises-refl, Inv, Kept, Permits, Keeps, act-keeps}
+use Rattle.machine.specs.Invariant.{core, rises-trans, rises-refl, Inv, Kept, Permits, Keeps, act-keeps}
 
 -- ONE CALL
 -- what holds of every acceptance of the rule holds of what `apply` accepts with, where the revision is of no account
@@ -105,7 +105,7 @@ module _ (M : Machine) where
     state : State
     holds : M .Holds x′ state
     inv : Inv m (core state) L′
-    rises : CoreRises (core s) (core state)
+    rises : Rises (five-of s) (five-of state)
 
   ran : (rs : List (M .Request)) (n m : ℕ) (x : M .Image) (s : State) (L : Ledger) → n + length rs ≤ m → m < top → M .Holds x s → Inv n (core s) L
       → Ran m s (image M x rs) (after L (events M x rs))
@@ -117,12 +117,12 @@ module _ (M : Machine) where
       record { state = z .state; holds = z .holds; inv = z .inv; rises = rises-trans (k .rises) (z .rises) }
 
   -- the claims, from the invariant at both moments
-  claims : {n m : ℕ} {s₁ : State} {L₁ : Ledger} (x₂ : M .Image) (s₂ : State) (L₂ : Ledger) → m < top → Inv n (core s₁) L₁ → M .Holds x₂ s₂ → Inv m (core s₂) L₂ → CoreRises (core s₁) (core s₂)
+  claims : {n m : ℕ} {s₁ : State} {L₁ : Ledger} (x₂ : M .Image) (s₂ : State) (L₂ : Ledger) → m < top → Inv n (core s₁) L₁ → M .Holds x₂ s₂ → Inv m (core s₂) L₂ → Rises (five-of s₁) (five-of s₂)
       → ((t : SnapshotLeaseToken) → List·Memᴰ t (L₁ .ended) → List·Memᴰ t (L₂ .ended)) → Claims M s₁ L₁ x₂ s₂ L₂
   claims {m = m} x₂ s₂ L₂ few i₁ h i r stays = record {
-    never-fall = record { frontier = r .frontier; policy = r .policy; readable = r .readable; collected = r .collected; clock = r .clock };
-    ordered₁ = let o = i₁ .good .ordered in record { collected≤readable = o .collected≤readable; readable≤policy = o .readable≤policy; policy≤frontier = o .policy≤frontier };
-    ordered₂ = let o = i .good .ordered in record { collected≤readable = o .collected≤readable; readable≤policy = o .readable≤policy; policy≤frontier = o .policy≤frontier };
+    never-fall = r;
+    ordered₁ = i₁ .good .ordered;
+    ordered₂ = i .good .ordered;
     in-range = λ id l q.
         let ok = i .good .lease-ok id (l .last) (linked-live id l (i .linked) q) in
         let v = i .linked .live-ok id l q .its-version in omega arith;

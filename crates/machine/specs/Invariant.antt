@@ -11,38 +11,24 @@ use borrow.Author.Tests.{ltb-false, leb-false, eqb-true, not-false}
 use Rattle.state.specs.Maps.{Text, Map, _⟼_, same, lookup, insert, remove, remove-all, any-value, keys-where}
 use Rattle.state.specs.MapLaws.{no-way, option-clash, is-none, by-test, lookup-remove-all, found-insert, found-remove, any-value-false, keys-where-has}
 use Rattle.state.specs.Records.{AuthorityContext, no-faults, State, SnapshotClosure, SnapshotLeaseToken, CollectionJobToken, ObjectReference, PublicationIntent, CollectionReceipt, DeletePermit, ObjectIdentity, names}
+use Rattle.state.specs.Setters.{set-lease-clock-tick, set-lease-epoch, set-leases}
 use Rattle.machine.specs.Actions.{Action, ObserveCommittedFrontier, SetRetentionWindow, ObserveRangeMapEpoch, ConfigureCollectionRoot, AcquireLease, RenewLease, ReleaseLease, AdvanceLeaseClock, PrepareCollection, PublishCollection, AbandonCollection, Prepare, Publish, Pin, Unpin, ReserveDelete, RetireDelete, Outcome, Accepts}
 use Rattle.machine.specs.Next.{top, up, oldest, policy-for, readable-for, moved, expired}
 use Rattle.machine.specs.Machine.{observe-committed-frontier, set-retention-window, observe-range-map-epoch, configure-collection-root, acquire-lease, renew-lease, release-lease, advance-lease-clock, prepare-collection, publish-collection, abandon-collection, prepare, publish, pin, unpin, reserve-delete, retire-delete, act}
 use Rattle.machine.specs.Ledger.{took, permit-in, Lease, Ledger, note}
+use Rattle.machine.specs.Claims.{Five, five-of, Rises, Ordered}
 use Rattle.machine.specs.Linked.{TokenOk, LiveOk, Linked, raise, linked-live, begin-linked, renew-linked, end-linked, end-all-linked}
 
--- THE CORE of a state: what the claims speak of. Most actions leave it as it is, by computation.
+-- THE CORE of a state: what the claims rest on. Most actions leave it as it is, by computation.
 pub record Core : Type 0 where
   pub format : ℕ
-  pub frontier : ℕ
-  pub policy : ℕ
-  pub readable : ℕ
-  pub collected : ℕ
-  pub clock : ℕ
+  pub five : Five
   pub epoch : ℕ
   pub leases : Map SnapshotLeaseToken
   pub jobs : Map CollectionJobToken
 
 abbrev pub core : State → Core
-core s = record { format = s .format-version; frontier = s .observed-commit-frontier; policy = s .policy-floor; readable = s .minimum-readable-version; collected = s .physically-collected-through; clock = s .lease-clock-tick; epoch = s .lease-epoch; leases = s .leases; jobs = s .collection-jobs }
-
-pub record CoreOrdered (collected readable policy frontier : ℕ) : Type 0 where
-  pub collected≤readable : collected ≤ readable
-  pub readable≤policy : readable ≤ policy
-  pub policy≤frontier : policy ≤ frontier
-
-pub record CoreRises (s s′ : Core) : Type 0 where
-  pub frontier : s .frontier ≤ s′ .frontier
-  pub policy : s .policy ≤ s′ .policy
-  pub readable : s .readable ≤ s′ .readable
-  pub collected : s .collected ≤ s′ .collected
-  pub clock : s .clock ≤ s′ .clock
+core s = record { format = s .format-version; five = five-of s; epoch = s .lease-epoch; leases = s .leases; jobs = s .collection-jobs }
 
 -- each over just the numbers that it uses, so that it still holds, by computation, where others change
 pub record LeaseOk (readable frontier clock : ℕ) (id : Text) (t : SnapshotLeaseToken) : Type 0 where
@@ -57,12 +43,12 @@ pub record JobOk (readable : ℕ) (id : Text) (j : CollectionJobToken) : Type 0 
 
 pub record Good (s : Core) : Type 0 where
   pub format-1 : s .format ≡ 1
-  pub ordered : CoreOrdered (s .collected) (s .readable) (s .policy) (s .frontier)
-  pub lease-ok : (id : Text) (t : SnapshotLeaseToken) → lookup id (s .leases) ≡ some t → LeaseOk (s .readable) (s .frontier) (s .clock) id t
-  pub job-ok : (id : Text) (j : CollectionJobToken) → lookup id (s .jobs) ≡ some j → JobOk (s .readable) id j
+  pub ordered : Ordered (s .five)
+  pub lease-ok : (id : Text) (t : SnapshotLeaseToken) → lookup id (s .leases) ≡ some t → LeaseOk (s .five .readable) (s .five .frontier) (s .five .clock) id t
+  pub job-ok : (id : Text) (j : CollectionJobToken) → lookup id (s .jobs) ≡ some j → JobOk (s .five .readable) id j
 
 -- the floor
-oldest-floor : (n : ℕ) (m : Map SnapshotLeaseToken) → oldest n m ≤ n
+pub oldest-floor : (n : ℕ) (m : Map SnapshotLeaseToken) → oldest n m ≤ n
 unfolding oldest
 oldest-floor n [] = omega arith
 oldest-floor n ((k ⟼ v) ∷ m) = omega (arith, oldest-floor n m)
@@ -74,10 +60,10 @@ oldest-lease n ((j ⟼ w) ∷ m) k v h = by-test (λ b. cond b (some w) (lookup 
     (λ _ z. let q : w ≡ v = cc in rw q (omega arith))
     (λ _ z. omega (arith, oldest-lease n m k v z)) h
 
-pub rises-trans : {a b c : Core} → CoreRises a b → CoreRises b c → CoreRises a c
+pub rises-trans : {a b c : Five} → Rises a b → Rises b c → Rises a c
 rises-trans p q = omega arith
 
-pub rises-refl : {a : Core} → CoreRises a a
+pub rises-refl : {a : Five} → Rises a a
 rises-refl = omega arith
 
 -- WHAT EVERY MOMENT KEEPS: n is the number of calls before it
@@ -88,7 +74,7 @@ pub record Inv (n : ℕ) (s : Core) (L : Ledger) : Type 0 where
 
 pub record Kept (n : ℕ) (s : Core) (s′ : Core) (L′ : Ledger) : Type 0 where
   pub inv : Inv (suc n) s′ L′
-  pub rises : CoreRises s s′
+  pub rises : Rises (s .five) (s′ .five)
 
 quiet : {n : ℕ} {s : Core} {L : Ledger} → Inv n s L → Kept n s s L
 quiet i = record { inv = record { good = i .good; linked = i .linked; count = omega arith }; rises = rises-refl }
@@ -110,14 +96,16 @@ floor (some w) frontier policy readable leases h k =
     record { policy-up = omega arith; policy-in = omega arith; readable-up = omega arith; readable-in = omega arith; readable-lease = λ id t q l. let b = oldest-lease p leases id t q in omega arith }
 
 abbrev refloor : Option ℕ → Core → Core
-refloor o s = record { format = s .format; frontier = s .frontier; policy = policy-for o (s .frontier) (s .policy); readable = readable-for o (policy-for o (s .frontier) (s .policy)) (s .leases) (s .readable); collected = s .collected; clock = s .clock; epoch = s .epoch; leases = s .leases; jobs = s .jobs }
+refloor o s =
+    let policy = policy-for o (s .five .frontier) (s .five .policy) in
+    record { format = s .format; five = record { frontier = s .five .frontier; policy = policy; readable = readable-for o policy (s .leases) (s .five .readable); collected = s .five .collected; clock = s .five .clock }; epoch = s .epoch; leases = s .leases; jobs = s .jobs }
 
 floored : {n : ℕ} {s₀ : Core} {L : Ledger} (o : Option ℕ) (s : Core) → Kept n s₀ s L → Kept n s₀ (refloor o s) L
 floored o s k =
     let g = k .inv .good in
     let ord = g .ordered in
     let rise = k .rises in
-    let f = floor o (s .frontier) (s .policy) (s .readable) (s .leases) (omega arith) (omega arith) in
+    let f = floor o (s .five .frontier) (s .five .policy) (s .five .readable) (s .leases) (omega arith) (omega arith) in
     record {
       inv = record {
         good = record {
@@ -230,11 +218,12 @@ module _ {n : ℕ} (few : n < top) {L : Ledger} (s : State) (i : Inv n (core s) 
       let m = moved-up ids (s .lease-epoch) n (i .count) few in
       let q : e ≡ s .lease-clock-tick = eqb-true _ _ (not-false _ now) in
       let r : e < d = leb-false _ _ later in
-      floored _ _ (record {
+      let ticked : Core = core (set-lease-clock-tick d (set-leases (remove-all ids (s .leases)) (set-lease-epoch (moved ids (s .lease-epoch)) s))) in
+      floored _ ticked (record {
         inv = record {
           good = record {
             format-1 = g .format-1;
-            ordered = g .ordered;
+            ordered = let o = g .ordered in omega arith;
             lease-ok = λ k t h.
                 let f = lookup-remove-all ids k t (s .leases) h in
                 let ok = g .lease-ok k t (f .1) in

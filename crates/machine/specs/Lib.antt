@@ -8,3 +8,5 @@ pub mod Claims
 pub mod Linked
 pub mod Invariant
 pub mod History
+pub mod Formed
+pub mod FormedLaws

@@ -11,7 +11,7 @@ use Rattle.text.specs.OrderLaws.{order-equal, order-refl}
 use Rattle.text.specs.SameLaws.{same-refl, same-true, same-of-eq}
 use Rattle.text.specs.declared.Order.{Order}
 use Rattle.text.specs.declared.Order.the-variants.{Less, Equal, Greater}
-use Rattle.state.specs.Maps.{Text, same, any, contains, is-some, side, Map, _⟼_, lookup, insert, remove, remove-all, any-value, keys-where, map-values}
+use Rattle.state.specs.Maps.{Text, same, Every, any, contains, is-some, side, Map, _⟼_, lookup, insert, remove, remove-all, any-value, keys-where, map-values}
 
 -- TESTS
 pub no-way {ℓ} : {A : Type ℓ} {x : Bool} → x ≡ true → x ≡ false → A
@@ -131,6 +131,47 @@ module _ {A : Type 0} (P : Text → A → Type 0) where
 
   pub found-remove-all : (ks : List Text) (m : Map A) → Found m → Found (remove-all ks m)
   found-remove-all ks m old i w h = old i w (lookup-remove-all ks i w m h .1)
+
+-- A PROPERTY OF EACH ENTRY
+module _ {A : Type 0} (P : Text → A → Type 0) where
+  abbrev pub Each : Map A → Type 0
+  Each [] = Unit {0}
+  Each ((k ⟼ v) ∷ m) = P k v × Each m
+
+  pub each-insert : (k : Text) (v : A) (m : Map A) → P k v → Each m → Each (insert k v m)
+  unfolding insert
+  each-insert k v [] new old = (new, tt)
+  each-insert k v ((j ⟼ w) ∷ m) new old =
+      elim (orderOf k j) as (λ o. Each (side o ((k ⟼ v) ∷ (j ⟼ w) ∷ m) ((k ⟼ v) ∷ m) ((j ⟼ w) ∷ insert k v m))) [
+        | Less ↦ (new, old)
+        | Equal ↦ (new, old .1)
+        | Greater ↦ (old .0, each-insert k v m new (old .1))
+      ]
+
+  pub each-remove : (k : Text) (m : Map A) → Each m → Each (remove k m)
+  unfolding remove
+  each-remove k [] old = tt
+  each-remove k ((j ⟼ w) ∷ m) old = by-test (λ t. Each (cond t (remove k m) ((j ⟼ w) ∷ remove k m))) (same k j)
+      (λ _. each-remove k m (old .1)) (λ _. (old .0, each-remove k m (old .1)))
+
+  pub each-remove-all : (ks : List Text) (m : Map A) → Each m → Each (remove-all ks m)
+  unfolding remove-all
+  each-remove-all [] m old = old
+  each-remove-all (k ∷ ks) m old = each-remove-all ks (remove k m) (each-remove k m old)
+
+  pub each-lookup : (k : Text) (v : A) (m : Map A) → Each m → lookup k m ≡ some v → P k v
+  unfolding lookup
+  each-lookup k v [] old h = option-clash h
+  each-lookup k v ((j ⟼ w) ∷ m) old h = by-test (λ t. same k j ≡ t → cond t (some w) (lookup k m) ≡ some v → P k v) (same k j)
+      (λ _ q e. let p : k ≡ j = same-true k j q in let r : w ≡ v = cc in rw (p, ← r) (old .0))
+      (λ _ _ e. each-lookup k v m (old .1) e) refl h
+
+  -- a property of the keys that a test picks
+  pub each-keys : (Q : Text → Type 0) (p : A → Bool) → ((k : Text) (v : A) → P k v → Q k) → (m : Map A) → Each m → Every Q (keys-where p m)
+  unfolding keys-where
+  each-keys Q p f [] h = tt
+  each-keys Q p f ((k ⟼ v) ∷ m) h = by-test (λ b. Every Q (cond b (k ∷ keys-where p m) (keys-where p m))) (p v)
+      (λ _. (f k v (h .0), each-keys Q p f m (h .1))) (λ _. each-keys Q p f m (h .1))
 
 -- MAPPED VALUES
 module _ {A B : Type 0} (f : A → B) where
