@@ -80,6 +80,9 @@ Accepts P (accept s o) = P s o
 pub not-accepted {ℓ} : {B : Type ℓ} {n : ℕ} {s : State} {o : Outcome} → rejected n ≡ accepted s o → B
 not-accepted e = let z : _≡_ {A = ℕ} 0 1 = cc in absurd (omega arith)
 
+pub not-rejected {ℓ} : {B : Type ℓ} {n : ℕ} {s : State} {o : Outcome} → accepted s o ≡ rejected n → B
+not-rejected e = let z : _≡_ {A = ℕ} 0 1 = cc in absurd (omega arith)
+
 pub accepts : (P : State → Outcome → Type 0) (r : Rule) → Accepts P r → (s : State) (o : Outcome) → decide r ≡ accepted s o → P s o
 unfolding decide
 accepts P (refuse-or n true r) h s o e = not-accepted e

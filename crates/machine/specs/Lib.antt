@@ -10,3 +10,5 @@ pub mod Invariant
 pub mod History
 pub mod Formed
 pub mod FormedLaws
+pub mod Statuses
+pub mod Corners

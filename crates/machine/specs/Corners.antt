@@ -1,0 +1,76 @@
+-- The corners that the scope paper names, each as a theorem of the definitions.
+-- (That AcquireLease does not look at reservations is a row of E9.)
+-- Assumes nothing.
+use Prim.Native.Nat.{ℕ, _-_, _^_}
+use mathlib.Core.Path.{_≡_, refl}
+use mathlib.Core.List.{List, [], _∷_}
+use mathlib.Core.Option.{Option, none, some}
+use mathlib.Core.Bool.{Bool, true, false, cond, not, _&&_}
+use lib.Dec.{eqb}
+use Rattle.text.specs.SameLaws.{prefix-refl}
+use Rattle.state.specs.Maps.{Text, is-empty, starts-with, lookup}
+use Rattle.state.specs.MapLaws.{by-test}
+use Rattle.state.specs.Records.{AuthorityContext, ObjectIdentity, ObjectReference, PreparedPublication, DeletePermit, PublicationAuthorityFaults, State, RevisionToken, every, revision-eq, is-manifest, valid-context, valid-reference}
+use Rattle.machine.specs.Actions.{Action, Outcome, rejected, accepted, decide, Accepts}
+use Rattle.machine.specs.Next.{up}
+use Rattle.machine.specs.Machine.{renew-lease, intent-matches, publish, reserve-delete, retire-delete, stamp, rule, apply}
+use Rattle.machine.specs.History.{stamped}
+
+-- Epochs stop at 2^64 - 1.
+pub epochs-stop : up (2 ^ 64 - 1) ≡ 2 ^ 64 - 1
+unfolding up
+epochs-stop = refl
+
+module _ (s : State) (c : AuthorityContext) (f : PublicationAuthorityFaults) where
+  -- ReserveDelete and RetireDelete leave root_intent_epoch.
+  abbrev SameRootEpoch : State → Outcome → Type 0
+  SameRootEpoch s′ o = s′ .root-intent-epoch ≡ s .root-intent-epoch
+
+  pub reserve-same-epoch : (plan : Text) (mark : ℕ) (key : Text) (i : ObjectIdentity) → Accepts SameRootEpoch (reserve-delete s plan mark key i c f)
+  unfolding reserve-delete
+  reserve-same-epoch plan mark key i = λ _ _ _ _ _ _ _ _. refl
+
+  pub retire-same-epoch : (p : DeletePermit) → Accepts SameRootEpoch (retire-delete s p (c .generation) f)
+  unfolding retire-delete
+  retire-same-epoch p = λ _ _ _ _. refl
+
+  -- Renewal does not recompute the floor.
+  pub renew-same-floor : (id : Text) (epoch deadline : ℕ) → Accepts (λ s′ o. (s′ .policy-floor ≡ s .policy-floor) × (s′ .minimum-readable-version ≡ s .minimum-readable-version)) (renew-lease s id epoch deadline c f)
+  unfolding renew-lease
+  renew-same-floor id epoch deadline = λ _ _ _ _ _. (refl, refl)
+
+  -- Publish tests mismatch before generation: an intent that does not match is 5 whatever its generation.
+  pub mismatch-first : (id root : Text) (prior : Option ObjectReference) (m : ObjectReference) (p : PreparedPublication)
+      → is-empty id ≡ false → is-empty root ≡ false → is-manifest m ≡ true → valid-reference m ≡ true
+      → lookup id (s .intents) ≡ some p → intent-matches root prior m p ≡ false → decide (publish s id root prior m (c .generation) f) ≡ rejected 5
+  unfolding publish decide
+  mismatch-first id root prior m p h₁ h₂ h₃ h₄ at e = simp (h₁, h₂, h₃, h₄, at, e)
+
+  -- RetireDelete tests the generation of the shown permit before equality.
+  pub generation-first : (p q : DeletePermit) → lookup (p .key) (s .deletion-reservations) ≡ some q → eqb (p .owner-generation) (c .generation) ≡ false
+      → decide (retire-delete s p (c .generation) f) ≡ rejected 14
+  unfolding retire-delete decide
+  generation-first p q at e = simp (at, e)
+
+  -- Acceptance sets the revision; a rejection has no next state.
+  pub accepted-revision : (a : Action) (s′ : State) (o : Outcome) → apply s a c f ≡ accepted s′ o → s′ .revision ≡ c .position
+  unfolding apply
+  accepted-revision a = stamped (λ s′ o. s′ .revision ≡ c .position) (c .position) (decide (rule s a c f)) (λ _ _ _. refl)
+
+  -- A format other than 1 is 2, and so is a context that is not valid.
+  pub other-format : (a : Action) → eqb (s .format-version) 1 ≡ false → apply s a c f ≡ rejected 2
+  unfolding apply rule decide stamp
+  other-format a e = simp e
+
+  pub invalid-context : (a : Action) → valid-context c ≡ false → apply s a c f ≡ rejected 2
+  unfolding apply rule decide stamp
+  invalid-context a e = by-test (λ b. eqb (s .format-version) 1 ≡ b → apply s a c f ≡ rejected 2) (eqb (s .format-version) 1) (λ _ q. simp (q, e)) (λ _ q. simp q) refl
+
+-- A key equal to the namespace passes.
+pub key-is-namespace : (k : Text) → starts-with k k ≡ true
+key-is-namespace k = prefix-refl k
+
+-- An absent e_tag is not an empty one.
+pub absent-not-empty : (v : Option Text) → revision-eq (record { e-tag = none; version = v }) (record { e-tag = some []; version = v }) ≡ false
+unfolding revision-eq every
+absent-not-empty v = refl
