@@ -28,6 +28,13 @@ pub extern "C" fn text_starts_with(s: &[u8], prefix: &[u8]) -> bool
 }
 
 #[no_mangle]
+pub extern "C" fn text_ends_with_byte(s: &[u8], b: u8) -> bool
+    ensures { λ r. ⌜ r ≡ endsWithOf b (now (s .entry)) ⌝ }
+{
+    text::ends_with_byte(s, b)
+}
+
+#[no_mangle]
 pub extern "C" fn text_valid_sha256(s: &[u8]) -> bool
     ensures { λ r. ⌜ r ≡ sha256Of (now (s .entry)) ⌝ }
 {
