@@ -1,0 +1,13 @@
+pub mod Shapes
+pub mod Body
+pub mod Contents
+pub mod Layout
+pub mod BodyLaws
+pub mod ContentsLaws
+pub mod LayoutLaws
+pub mod Walked
+pub mod SameBytes
+pub mod Tables
+pub mod ImageParts
+pub mod Edges
+pub mod Limits

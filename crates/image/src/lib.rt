@@ -1,0 +1,1 @@
+// The image of the state. Its definitions and laws stand in specs.
