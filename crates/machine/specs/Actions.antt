@@ -6,7 +6,7 @@ use mathlib.Core.Option.{Option, none, some}
 use mathlib.Core.Bool.{Bool, true, false}
 use native.Mathlib.Omega.{arith}
 use Rattle.state.specs.Maps.{Text}
-use Rattle.state.specs.Records.{AuthorityContext, ObjectIdentity, ObjectReference, PublicationIntent, SnapshotClosure, SnapshotLeaseToken, CollectionJobToken, CollectionReceipt, DeletePermit, State}
+use Rattle.state.specs.Records.{ObjectIdentity, ObjectReference, PublicationIntent, SnapshotClosure, SnapshotLeaseToken, CollectionJobToken, CollectionReceipt, DeletePermit, State}
 
 -- PublicationAction
 pub data Action : Type 0 where

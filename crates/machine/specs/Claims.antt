@@ -1,9 +1,9 @@
 -- DEMAND 3, the statement: machines, their moments, and what is claimed of two moments.
 use Prim.Native.Nat.{ℕ, _≤_}
-use mathlib.Core.Path.{_≡_, refl}
+use mathlib.Core.Path.{_≡_}
 use mathlib.Core.Logic.{_↔_}
 use mathlib.Core.List.{List, [], _∷_, List·Memᴰ}
-use mathlib.Core.Option.{Option, none, some}
+use mathlib.Core.Option.{Option, some}
 use mathlib.Core.Bool.{false}
 use Rattle.state.specs.Maps.{Text, lookup}
 use Rattle.state.specs.Records.{AuthorityContext, no-faults, State, SnapshotLeaseToken, DeletePermit, names}
@@ -34,7 +34,8 @@ pub record Machine : Type 1 where
   pub steps : (x : Image) (s : State) → Holds x s → (r : Request) → (s′ : State) × Step s (told x r) s′ × Holds (call x r) s′
   pub checks : (x : Image) (s : State) → Holds x s → (t : Token) → (check x t ≡ 0) ↔ ((u : SnapshotLeaseToken) × (spells t ≡ some u) × (validate s u ≡ 0))
 
--- MOMENTS: after a list of requests, the image, what they told, and the ledger of leases
+-- MOMENTS: the start of a list of calls, or the end of one. After the requests so far: the image, what the calls told, and the
+-- ledger of leases.
 module _ (M : Machine) where
   abbrev pub image : M .Image → List (M .Request) → M .Image
   image x [] = x

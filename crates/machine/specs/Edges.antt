@@ -10,7 +10,7 @@ use lib.ListN.{replicate, length}
 use Rattle.text.specs.Order.{orderOf}
 use Rattle.text.specs.Same.{sameOf, prefixOf, endsWithOf, within, hexOf, allHex, sha256Of}
 use Rattle.state.specs.Maps.{Text, same-texts, all, any, lookup, insert, remove, remove-all, any-value, keys-where, is-empty}
-use Rattle.state.specs.Records.{AuthorityContext, no-faults, Manifest, ObjectReference, ObjectIdentity, SnapshotClosure, SnapshotLeaseToken, State, default, every, reference-eq, lease-eq, closure-eq, position-eq, valid-context, valid-identity, valid-reference, valid-intent, valid-closure}
+use Rattle.state.specs.Records.{AuthorityContext, no-faults, Manifest, ObjectReference, SnapshotClosure, SnapshotLeaseToken, State, default, every, reference-eq, lease-eq, closure-eq, position-eq, valid-context, valid-identity, valid-reference, valid-intent, valid-closure}
 use Rattle.state.specs.Setters.{set-leases, set-lease-clock-tick}
 use Rattle.machine.specs.Actions.{Action, ObserveCommittedFrontier, SetRetentionWindow, ObserveRangeMapEpoch, ConfigureCollectionRoot, AcquireLease, ReleaseLease, AdvanceLeaseClock, PrepareCollection, Prepare, Publish, ReserveDelete, Outcome, Applied, DeleteReserved, LeaseAcquired, LeaseRenewed, LeasesExpired, CollectionPrepared, CollectionPublished, Transition, rejected, accepted, decide}
 use Rattle.machine.specs.Next.{up, oldest, policy-for, readable-for, moved}

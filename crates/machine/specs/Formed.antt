@@ -3,7 +3,7 @@
 -- all for states of the Rust, the limits and UTF-8 for states of an image.
 use Prim.Native.Nat.{ℕ, _<_, _^_}
 use mathlib.Core.Path.{_≡_}
-use mathlib.Core.List.{List, [], _∷_}
+use mathlib.Core.List.{List}
 use mathlib.Core.Option.{Option, none, some}
 use Rattle.state.specs.Maps.{Text, Map, Every}
 use Rattle.state.specs.MapLaws.{Each}

@@ -1,23 +1,22 @@
 -- `apply` keeps states well formed, under any fault flags, and its outcome fits.
 -- Assumes nothing.
-use Prim.Native.Nat.{ℕ, suc, _<_, _≤_, _^_, _-_, min, max}
-use mathlib.Core.Path.{_≡_, refl, sym, ap, _∙_, subst}
+use Prim.Native.Nat.{ℕ, _<_, _^_}
+use mathlib.Core.Path.{_≡_, refl, subst}
 use mathlib.Core.List.{List, [], _∷_}
 use mathlib.Core.Option.{Option, none, some}
 use mathlib.Core.Bool.{Bool, true, false, cond}
 use native.Mathlib.Omega.{arith}
-use lib.Dec.{leb}
-use Rattle.state.specs.Maps.{Text, Map, _⟼_, Every, lookup, insert, remove, remove-all, keys-where}
-use Rattle.state.specs.MapLaws.{Each, each-insert, each-remove, each-remove-all, each-lookup, each-keys}
-use Rattle.state.specs.Sorted.{Ascending, insert-ascending, remove-ascending, remove-all-ascending}
+use Rattle.state.specs.Maps.{Text, Map, insert, remove, remove-all}
+use Rattle.state.specs.MapLaws.{each-insert, each-remove, each-remove-all, each-lookup, each-keys}
+use Rattle.state.specs.Sorted.{insert-ascending, remove-ascending, remove-all-ascending}
 use Rattle.state.specs.Records.{AuthorityPosition, AuthorityContext, ObjectReference, PreparedPublication, SnapshotLeaseToken, CollectionJobToken, DeletePermit, PublicationAuthorityFaults, State, default}
 use Rattle.state.specs.Setters.{set-revision, set-root-intent-epoch, set-intents, set-roots, set-pins, set-deletion-reservations, set-observed-commit-frontier, set-retention-window, set-retention-policy-epoch, set-policy-floor, set-minimum-readable-version, set-physically-collected-through, set-lease-clock-tick, set-lease-epoch, set-leases, set-range-map-epoch, set-collection-root, set-collection-jobs}
-use Rattle.machine.specs.Actions.{Action, ObserveCommittedFrontier, SetRetentionWindow, ObserveRangeMapEpoch, ConfigureCollectionRoot, AcquireLease, RenewLease, ReleaseLease, AdvanceLeaseClock, PrepareCollection, PublishCollection, AbandonCollection, Prepare, Publish, Pin, Unpin, ReserveDelete, RetireDelete, Outcome, Transition, accepted, decide, Accepts, accepts}
-use Rattle.machine.specs.Next.{top, up, oldest, policy-for, readable-for, moved, expired, recompute-read-floor, bump-root, bump-root-unless}
+use Rattle.machine.specs.Actions.{Action, ObserveCommittedFrontier, SetRetentionWindow, ObserveRangeMapEpoch, ConfigureCollectionRoot, AcquireLease, RenewLease, ReleaseLease, AdvanceLeaseClock, PrepareCollection, PublishCollection, AbandonCollection, Prepare, Publish, Pin, Unpin, ReserveDelete, RetireDelete, Outcome, accepted, decide, Accepts, accepts}
+use Rattle.machine.specs.Next.{up, policy-for, readable-for, moved, expired, recompute-read-floor, bump-root, bump-root-unless}
 use Rattle.machine.specs.Machine.{observe-committed-frontier, set-retention-window as set-window, observe-range-map-epoch, configure-collection-root, acquire-lease, renew-lease, release-lease, advance-lease-clock, prepare-collection, publish-collection, abandon-collection, prepare, publish, pin, unpin, reserve-delete, retire-delete, act, rule, apply}
 use Rattle.machine.specs.Invariant.{oldest-floor}
-use Rattle.machine.specs.History.{stamped}
-use Rattle.machine.specs.Formed.{Texts, Number, Maybe, Table, PositionFits, ContextFits, Numbers, ReferenceFits, LeaseFits, JobFits, ReferenceAt, IntentAt, PermitAt, LeaseAt, JobAt, Formed, ActionFits, OutcomeFits}
+use Rattle.machine.specs.ApplyLaws.{stamped}
+use Rattle.machine.specs.Formed.{Texts, Number, Maybe, Table, PositionFits, ContextFits, Numbers, ReferenceAt, IntentAt, PermitAt, LeaseAt, JobAt, Formed, ActionFits, OutcomeFits}
 
 -- NUMBERS that the machine computes
 up-fits : (n : ℕ) → up n < 2 ^ 64
@@ -45,13 +44,13 @@ readable-fits (some w) p m n hp hn = omega (arith, oldest-floor p m)
 
 -- TABLES
 module _ {A : Type 0} (P : Text → A → Type 0) where
-  table-insert : (k : Text) (v : A) (m : Map A) → P k v → Table P m → Table P (insert k v m)
+  pub table-insert : (k : Text) (v : A) (m : Map A) → P k v → Table P m → Table P (insert k v m)
   table-insert k v m new t = record { ascending = insert-ascending k v m (t .ascending); each = each-insert P k v m new (t .each) }
 
-  table-remove : (k : Text) (m : Map A) → Table P m → Table P (remove k m)
+  pub table-remove : (k : Text) (m : Map A) → Table P m → Table P (remove k m)
   table-remove k m t = record { ascending = remove-ascending k m (t .ascending); each = each-remove P k m (t .each) }
 
-  table-remove-all : (ks : List Text) (m : Map A) → Table P m → Table P (remove-all ks m)
+  pub table-remove-all : (ks : List Text) (m : Map A) → Table P m → Table P (remove-all ks m)
   table-remove-all ks m t = record { ascending = remove-all-ascending ks m (t .ascending); each = each-remove-all P ks m (t .each) }
 
 module _ (T : Texts) where
@@ -65,58 +64,58 @@ module _ (T : Texts) where
   default-formed = form default (omega arith) (omega arith) tt tt (record { ascending = tt; each = tt }) (record { ascending = tt; each = tt }) (record { ascending = tt; each = tt }) (record { ascending = tt; each = tt }) (record { ascending = tt; each = tt }) (record { ascending = tt; each = tt })
 
   -- ONE LEMMA TO A SETTER, so that a proof follows the next state as it is written
-  keep-revision : (x : AuthorityPosition) {s : State} → PositionFits x → Formed T s → Formed T (set-revision x s)
+  pub keep-revision : (x : AuthorityPosition) {s : State} → PositionFits x → Formed T s → Formed T (set-revision x s)
   keep-revision x h w = form _ w.numbers h w.retention-window w.collection-root w.intents w.roots w.pins w.deletion-reservations w.leases w.collection-jobs
 
-  keep-root-intent-epoch : (x : ℕ) {s : State} → x < 2 ^ 64 → Formed T s → Formed T (set-root-intent-epoch x s)
+  pub keep-root-intent-epoch : (x : ℕ) {s : State} → x < 2 ^ 64 → Formed T s → Formed T (set-root-intent-epoch x s)
   keep-root-intent-epoch x h w = let n = w .numbers in form _ (omega arith) w.revision w.retention-window w.collection-root w.intents w.roots w.pins w.deletion-reservations w.leases w.collection-jobs
 
-  keep-intents : (x : Map PreparedPublication) {s : State} → Table (IntentAt T) x → Formed T s → Formed T (set-intents x s)
+  pub keep-intents : (x : Map PreparedPublication) {s : State} → Table (IntentAt T) x → Formed T s → Formed T (set-intents x s)
   keep-intents x h w = form _ w.numbers w.revision w.retention-window w.collection-root h w.roots w.pins w.deletion-reservations w.leases w.collection-jobs
 
-  keep-roots : (x : Map ObjectReference) {s : State} → Table (ReferenceAt T) x → Formed T s → Formed T (set-roots x s)
+  pub keep-roots : (x : Map ObjectReference) {s : State} → Table (ReferenceAt T) x → Formed T s → Formed T (set-roots x s)
   keep-roots x h w = form _ w.numbers w.revision w.retention-window w.collection-root w.intents h w.pins w.deletion-reservations w.leases w.collection-jobs
 
-  keep-pins : (x : Map ObjectReference) {s : State} → Table (ReferenceAt T) x → Formed T s → Formed T (set-pins x s)
+  pub keep-pins : (x : Map ObjectReference) {s : State} → Table (ReferenceAt T) x → Formed T s → Formed T (set-pins x s)
   keep-pins x h w = form _ w.numbers w.revision w.retention-window w.collection-root w.intents w.roots h w.deletion-reservations w.leases w.collection-jobs
 
-  keep-deletion-reservations : (x : Map DeletePermit) {s : State} → Table (PermitAt T) x → Formed T s → Formed T (set-deletion-reservations x s)
+  pub keep-deletion-reservations : (x : Map DeletePermit) {s : State} → Table (PermitAt T) x → Formed T s → Formed T (set-deletion-reservations x s)
   keep-deletion-reservations x h w = form _ w.numbers w.revision w.retention-window w.collection-root w.intents w.roots w.pins h w.leases w.collection-jobs
 
-  keep-observed-commit-frontier : (x : ℕ) {s : State} → x < 2 ^ 64 → Formed T s → Formed T (set-observed-commit-frontier x s)
+  pub keep-observed-commit-frontier : (x : ℕ) {s : State} → x < 2 ^ 64 → Formed T s → Formed T (set-observed-commit-frontier x s)
   keep-observed-commit-frontier x h w = let n = w .numbers in form _ (omega arith) w.revision w.retention-window w.collection-root w.intents w.roots w.pins w.deletion-reservations w.leases w.collection-jobs
 
-  keep-retention-window : (x : Option ℕ) {s : State} → Maybe Number x → Formed T s → Formed T (set-retention-window x s)
+  pub keep-retention-window : (x : Option ℕ) {s : State} → Maybe Number x → Formed T s → Formed T (set-retention-window x s)
   keep-retention-window x h w = form _ w.numbers w.revision h w.collection-root w.intents w.roots w.pins w.deletion-reservations w.leases w.collection-jobs
 
-  keep-retention-policy-epoch : (x : ℕ) {s : State} → x < 2 ^ 64 → Formed T s → Formed T (set-retention-policy-epoch x s)
+  pub keep-retention-policy-epoch : (x : ℕ) {s : State} → x < 2 ^ 64 → Formed T s → Formed T (set-retention-policy-epoch x s)
   keep-retention-policy-epoch x h w = let n = w .numbers in form _ (omega arith) w.revision w.retention-window w.collection-root w.intents w.roots w.pins w.deletion-reservations w.leases w.collection-jobs
 
-  keep-policy-floor : (x : ℕ) {s : State} → x < 2 ^ 64 → Formed T s → Formed T (set-policy-floor x s)
+  pub keep-policy-floor : (x : ℕ) {s : State} → x < 2 ^ 64 → Formed T s → Formed T (set-policy-floor x s)
   keep-policy-floor x h w = let n = w .numbers in form _ (omega arith) w.revision w.retention-window w.collection-root w.intents w.roots w.pins w.deletion-reservations w.leases w.collection-jobs
 
-  keep-minimum-readable-version : (x : ℕ) {s : State} → x < 2 ^ 64 → Formed T s → Formed T (set-minimum-readable-version x s)
+  pub keep-minimum-readable-version : (x : ℕ) {s : State} → x < 2 ^ 64 → Formed T s → Formed T (set-minimum-readable-version x s)
   keep-minimum-readable-version x h w = let n = w .numbers in form _ (omega arith) w.revision w.retention-window w.collection-root w.intents w.roots w.pins w.deletion-reservations w.leases w.collection-jobs
 
-  keep-physically-collected-through : (x : ℕ) {s : State} → x < 2 ^ 64 → Formed T s → Formed T (set-physically-collected-through x s)
+  pub keep-physically-collected-through : (x : ℕ) {s : State} → x < 2 ^ 64 → Formed T s → Formed T (set-physically-collected-through x s)
   keep-physically-collected-through x h w = let n = w .numbers in form _ (omega arith) w.revision w.retention-window w.collection-root w.intents w.roots w.pins w.deletion-reservations w.leases w.collection-jobs
 
-  keep-lease-clock-tick : (x : ℕ) {s : State} → x < 2 ^ 64 → Formed T s → Formed T (set-lease-clock-tick x s)
+  pub keep-lease-clock-tick : (x : ℕ) {s : State} → x < 2 ^ 64 → Formed T s → Formed T (set-lease-clock-tick x s)
   keep-lease-clock-tick x h w = let n = w .numbers in form _ (omega arith) w.revision w.retention-window w.collection-root w.intents w.roots w.pins w.deletion-reservations w.leases w.collection-jobs
 
-  keep-lease-epoch : (x : ℕ) {s : State} → x < 2 ^ 64 → Formed T s → Formed T (set-lease-epoch x s)
+  pub keep-lease-epoch : (x : ℕ) {s : State} → x < 2 ^ 64 → Formed T s → Formed T (set-lease-epoch x s)
   keep-lease-epoch x h w = let n = w .numbers in form _ (omega arith) w.revision w.retention-window w.collection-root w.intents w.roots w.pins w.deletion-reservations w.leases w.collection-jobs
 
-  keep-leases : (x : Map SnapshotLeaseToken) {s : State} → Table (LeaseAt T) x → Formed T s → Formed T (set-leases x s)
+  pub keep-leases : (x : Map SnapshotLeaseToken) {s : State} → Table (LeaseAt T) x → Formed T s → Formed T (set-leases x s)
   keep-leases x h w = form _ w.numbers w.revision w.retention-window w.collection-root w.intents w.roots w.pins w.deletion-reservations h w.collection-jobs
 
-  keep-range-map-epoch : (x : ℕ) {s : State} → x < 2 ^ 64 → Formed T s → Formed T (set-range-map-epoch x s)
+  pub keep-range-map-epoch : (x : ℕ) {s : State} → x < 2 ^ 64 → Formed T s → Formed T (set-range-map-epoch x s)
   keep-range-map-epoch x h w = let n = w .numbers in form _ (omega arith) w.revision w.retention-window w.collection-root w.intents w.roots w.pins w.deletion-reservations w.leases w.collection-jobs
 
-  keep-collection-root : (x : Option Text) {s : State} → Maybe (T .Name) x → Formed T s → Formed T (set-collection-root x s)
+  pub keep-collection-root : (x : Option Text) {s : State} → Maybe (T .Name) x → Formed T s → Formed T (set-collection-root x s)
   keep-collection-root x h w = form _ w.numbers w.revision w.retention-window h w.intents w.roots w.pins w.deletion-reservations w.leases w.collection-jobs
 
-  keep-collection-jobs : (x : Map CollectionJobToken) {s : State} → Table (JobAt T) x → Formed T s → Formed T (set-collection-jobs x s)
+  pub keep-collection-jobs : (x : Map CollectionJobToken) {s : State} → Table (JobAt T) x → Formed T s → Formed T (set-collection-jobs x s)
   keep-collection-jobs x h w = form _ w.numbers w.revision w.retention-window w.collection-root w.intents w.roots w.pins w.deletion-reservations w.leases h
 
   module _ {s : State} (w : Formed T s) where

@@ -6,7 +6,7 @@ use mathlib.Core.Path.{_≡_, refl, sym, _∙_, ap, subst}
 use mathlib.Core.Logic.{_↔_}
 use mathlib.Core.List.{List, [], _∷_, _++_, List·Memᴰ, List·Memᴰ·head}
 use mathlib.Core.Option.{Option, none, some}
-use mathlib.Core.Bool.{Bool, true, false, cond}
+use mathlib.Core.Bool.{cond}
 use native.Mathlib.Omega.{arith}
 use lib.Dec.{leb, eqb}
 use lib.ListN.{length, take, drop, length-take}
@@ -14,27 +14,18 @@ use lib.Seq.{take-add}
 use borrow.Author.Tests.{eq-eqb, lt-leb}
 use Rattle.state.specs.Maps.{Text, lookup, map-values}
 use Rattle.state.specs.MapLaws.{option-clash, by-test}
-use Rattle.state.specs.Records.{AuthorityPosition, AuthorityContext, no-faults, State, default, SnapshotLeaseToken, DeletePermit, lease-eq, names}
+use Rattle.state.specs.Records.{AuthorityContext, no-faults, State, default, SnapshotLeaseToken, lease-eq}
 use Rattle.state.specs.RecordLaws.{lease-sound, lease-refl}
-use Rattle.state.specs.Setters.{set-revision}
-use Rattle.machine.specs.Actions.{Action, Outcome, Transition, rejected, accepted, decide, Accepts, not-accepted, accepts}
+use Rattle.machine.specs.Actions.{Action, Outcome, Transition, rejected, accepted, decide, Accepts, accepts}
 use Rattle.machine.specs.Next.{top}
-use Rattle.machine.specs.Machine.{rule, stamp, apply, validate-found, validate}
-use Rattle.machine.specs.Ledger.{Event, refused, took, permit-in, issued, Lease, Ledger, empty, note, after, Last}
+use Rattle.machine.specs.Machine.{rule, apply, validate-found, validate}
+use Rattle.machine.specs.ApplyLaws.{stamped}
+use Rattle.machine.specs.Ledger.{Event, refused, took, issued, Ledger, empty, note, after, Last}
 use Rattle.machine.specs.Claims.{Step, Machine, image, events, ledger, five-of, Rises, Claims}
 use Rattle.machine.specs.Linked.{linked-live, linked-some, after-ended}
 use Rattle.machine.specs.Invariant.{core, rises-trans, rises-refl, Inv, Kept, Permits, Keeps, act-keeps}
 
 -- ONE CALL
--- what holds of every acceptance of the rule holds of what `apply` accepts with, where the revision is of no account
-pub stamped : (P : State → Outcome → Type 0) (p : AuthorityPosition) (t : Transition) → ((s : State) (o : Outcome) → t ≡ accepted s o → P (set-revision p s) o)
-    → (s′ : State) (o : Outcome) → stamp p t ≡ accepted s′ o → P s′ o
-unfolding stamp
-stamped P p (rejected n) h s′ o e = not-accepted e
-stamped P p (accepted s₁ o₁) h s′ o e =
-    let q : set-revision p s₁ ≡ s′ = cc in let r : o₁ ≡ o = cc in
-    subst (λ (x : State). P x o) q (subst (P (set-revision p s₁)) r (h s₁ o₁ refl))
-
 module _ {n : ℕ} (few : n < top) {L : Ledger} (s : State) (i : Inv n (core s) L) (a : Action) (c : AuthorityContext) where
   rule-keeps : Accepts (Keeps few s i a) (rule s a c no-faults)
   unfolding rule

@@ -1,14 +1,14 @@
 -- What every moment of a history keeps, and that each call keeps it.
 -- Assumes nothing.
-use Prim.Native.Nat.{ℕ, suc, _≤_, _<_, _-_, _^_, min, max}
-use mathlib.Core.Path.{_≡_, refl, sym, _∙_, ap}
+use Prim.Native.Nat.{ℕ, suc, _≤_, _<_, _-_, min, max}
+use mathlib.Core.Path.{_≡_, refl}
 use mathlib.Core.List.{List, [], _∷_}
 use mathlib.Core.Option.{Option, none, some}
-use mathlib.Core.Bool.{Bool, true, false, not, cond}
+use mathlib.Core.Bool.{Bool, false, cond}
 use native.Mathlib.Omega.{arith}
-use lib.Dec.{leb, ltb, eqb}
+use lib.Dec.{leb}
 use borrow.Author.Tests.{ltb-false, leb-false, eqb-true, not-false}
-use Rattle.state.specs.Maps.{Text, Map, _⟼_, same, lookup, insert, remove, remove-all, any-value, keys-where}
+use Rattle.state.specs.Maps.{Text, Map, _⟼_, same, lookup, remove-all}
 use Rattle.state.specs.MapLaws.{no-way, option-clash, is-none, by-test, lookup-remove-all, found-insert, found-remove, any-value-false, keys-where-has}
 use Rattle.state.specs.Records.{AuthorityContext, no-faults, State, SnapshotClosure, SnapshotLeaseToken, CollectionJobToken, ObjectReference, PublicationIntent, CollectionReceipt, DeletePermit, ObjectIdentity, names}
 use Rattle.state.specs.Setters.{set-lease-clock-tick, set-lease-epoch, set-leases}
@@ -17,7 +17,7 @@ use Rattle.machine.specs.Next.{top, up, oldest, policy-for, readable-for
 use Rattle.machine.specs.Machine.{observe-committed-frontier, set-retention-window, observe-range-map-epoch, configure-collection-root, acquire-lease, renew-lease, release-lease, advance-lease-clock, prepare-collection, publish-collection, abandon-collection, prepare, publish, pin, unpin, reserve-delete, retire-delete, act}
 use Rattle.machine.specs.Ledger.{took, permit-in, Lease, Ledger, note}
 use Rattle.machine.specs.Claims.{Five, five-of, Rises, Ordered}
-use Rattle.machine.specs.Linked.{TokenOk, LiveOk, Linked, raise, linked-live, begin-linked, renew-linked, end-linked, end-all-linked}
+use Rattle.machine.specs.Linked.{Linked, raise, linked-live, begin-linked, renew-linked, end-linked, end-all-linked}
 
 -- THE CORE of a state: what the claims rest on. Most actions leave it as it is, by computation.
 pub record Core : Type 0 where
@@ -47,7 +47,7 @@ pub record Good (s : Core) : Type 0 where
   pub lease-ok : (id : Text) (t : SnapshotLeaseToken) → lookup id (s .leases) ≡ some t → LeaseOk (s .five .readable) (s .five .frontier) (s .five .clock) id t
   pub job-ok : (id : Text) (j : CollectionJobToken) → lookup id (s .jobs) ≡ some j → JobOk (s .five .readable) id j
 
--- the floor
+-- THE FLOOR
 pub oldest-floor : (n : ℕ) (m : Map SnapshotLeaseToken) → oldest n m ≤ n
 unfolding oldest
 oldest-floor n [] = omega arith
@@ -79,7 +79,7 @@ pub record Kept (n : ℕ) (s : Core) (s′ : Core) (L′ : Ledger) : Type 0 wher
 quiet : {n : ℕ} {s : Core} {L : Ledger} → Inv n s L → Kept n s s L
 quiet i = record { inv = record { good = i .good; linked = i .linked; count = omega arith }; rises = rises-refl }
 
--- the floor moves up, and nothing else
+-- what the new floor, `policy′` and `readable′`, is to the old one
 record Floor (policy policy′ readable readable′ frontier : ℕ) (leases : Map SnapshotLeaseToken) : Type 0 where
   policy-up : policy ≤ policy′
   policy-in : policy′ ≤ frontier
@@ -120,6 +120,7 @@ floored o s k =
       rises = omega arith;
     }
 
+-- THE LEASE EPOCH, which no more than n calls have moved
 moved-up : (ids : List Text) (e n : ℕ) → e ≤ n → n < top → (e ≤ moved ids e) × (moved ids e ≤ suc n)
 unfolding moved up
 moved-up [] e n h l = omega arith
@@ -134,13 +135,14 @@ abbrev pub Permits : Ledger → Option DeletePermit → Type 0
 Permits L none = Unit {0}
 Permits L (some p) = (id : Text) (l : Lease) → lookup id (L .live) ≡ some l → names (l .closure) (p .key) ≡ false
 
+-- an action that issues none
 infixr 1 plain_
 plain_ : {K : Type 0} → K → K × Unit {0}
 plain k = (k, tt)
 
 -- EACH ACTION
 module _ {n : ℕ} (few : n < top) {L : Ledger} (s : State) (i : Inv n (core s) L) where
-  -- P of an action: what its acceptances keep
+  -- what the acceptances of an action keep
   abbrev pub Keeps : Action → State → Outcome → Type 0
   Keeps a s′ o = Kept n (core s) (core s′) (note (took a o) L) × Permits L (permit-in o)
 

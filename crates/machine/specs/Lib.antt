@@ -2,6 +2,7 @@ pub mod Status
 pub mod Actions
 pub mod Next
 pub mod Machine
+pub mod ApplyLaws
 pub mod Edges
 pub mod Ledger
 pub mod Claims

@@ -1,9 +1,8 @@
 -- `apply` and `validate_active_snapshot_lease` of the Rust, over plain maps: one definition to a function, its tests in its order.
 -- Where the Rust has `test && !faults.f` the flag stands first, so that the test computes away when the flag is known.
 use Prim.Native.Nat.{ℕ}
-use mathlib.Core.List.{List, [], _∷_}
 use mathlib.Core.Option.{Option, none, some}
-use mathlib.Core.Bool.{Bool, true, false, not, cond, _&&_, _||_}
+use mathlib.Core.Bool.{Bool, false, not, cond, _&&_, _||_}
 use lib.Dec.{leb, ltb, eqb}
 use Rattle.state.specs.Maps.{Text, same, same-option, is-empty, is-some, contains, starts-with, ends-with-byte, any, lookup, has-key, any-value}
 use Rattle.state.specs.Records.{AuthorityPosition, AuthorityContext, ObjectIdentity, ObjectReference, PublicationIntent, PreparedPublication, SnapshotClosure, SnapshotLeaseToken, CollectionJobToken, CollectionReceipt, DeletePermit, PublicationAuthorityFaults, State, reference-eq, lease-eq, job-eq, permit-eq, is-manifest, names, valid-context, valid-identity, valid-reference, valid-intent, valid-closure, valid-receipt}

@@ -4,7 +4,6 @@ use Prim.Native.Nat.{ℕ, _≤_}
 use mathlib.Core.Path.{_≡_, refl, subst}
 use mathlib.Core.Bool.{true, false, _&&_}
 use mathlib.Core.Option.{none, some}
-use native.Mathlib.Omega.{arith}
 use lib.Dec.{leb}
 use borrow.Author.Tests.{leb-true}
 use Rattle.text.specs.SameLaws.{and-left, and-right}

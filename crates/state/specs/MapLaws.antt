@@ -4,12 +4,11 @@ use Prim.Native.Nat.{ℕ}
 use mathlib.Core.Path.{_≡_, refl, sym, _∙_, ap, subst}
 use mathlib.Core.List.{List, [], _∷_}
 use mathlib.Core.Option.{Option, none, some}
-use mathlib.Core.Bool.{Bool, true, false, cond, _&&_, _||_}
+use mathlib.Core.Bool.{Bool, true, false, cond, _||_}
 use native.Mathlib.Omega.{arith}
 use Rattle.text.specs.Order.{orderOf}
 use Rattle.text.specs.OrderLaws.{order-equal, order-refl}
 use Rattle.text.specs.SameLaws.{same-refl, same-true, same-of-eq}
-use Rattle.text.specs.declared.Order.{Order}
 use Rattle.text.specs.declared.Order.the-variants.{Less, Equal, Greater}
 use Rattle.state.specs.Maps.{Text, same, Every, any, contains, is-some, side, Map, _⟼_, lookup, insert, remove, remove-all, any-value, keys-where, map-values}
 

@@ -1,14 +1,12 @@
 -- Where a key stands in a map: what is ahead of it, at it and behind it. A change of the map is a splice there.
 -- Assumes nothing.
-use Prim.Native.Nat.{ℕ}
 use mathlib.Core.Path.{_≡_, refl, sym, ap, _∙_, subst}
-use mathlib.Core.Bool.{Bool, true, false, cond}
+use mathlib.Core.Bool.{Bool, false, cond}
 use mathlib.Core.List.{List, [], _∷_, _++_}
 use mathlib.Core.Option.{Option, none, some}
 use Rattle.text.specs.Order.{orderOf}
 use Rattle.text.specs.OrderLaws.{flip, order-flip, order-equal}
 use Rattle.text.specs.SameLaws.{same-refl}
-use Rattle.text.specs.declared.Order.{Order}
 use Rattle.text.specs.declared.Order.the-variants.{Less, Equal, Greater}
 use Rattle.state.specs.Maps.{Text, same, Every, side, Map, _⟼_, lookup, insert, remove, remove-all, keys-where}
 use Rattle.state.specs.MapLaws.{by-test, less-differs, greater-differs, equal-same}

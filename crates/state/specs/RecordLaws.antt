@@ -1,11 +1,9 @@
 -- `==` is true exactly on equals: of each record, of texts and of options.
 -- Assumes nothing.
-use Prim.Native.Nat.{ℕ}
-use mathlib.Core.Path.{_≡_, refl, sym, _∙_, ap}
+use mathlib.Core.Path.{_≡_, refl, ap}
 use mathlib.Core.List.{List, [], _∷_}
 use mathlib.Core.Option.{Option, none, some}
-use mathlib.Core.Bool.{Bool, true, false, _&&_}
-use lib.Dec.{eqb}
+use mathlib.Core.Bool.{Bool, true, _&&_}
 use borrow.Author.Tests.{eqb-true, eq-eqb}
 use Rattle.text.specs.SameLaws.{same-refl, same-true}
 use Rattle.state.specs.Maps.{Text, same, same-texts, same-option}

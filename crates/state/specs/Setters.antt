@@ -1,6 +1,7 @@
 -- One setter to a field. antt has no record update: a setter writes the state anew, its fields in the declared order,
 -- with `x` in the place of the old value.
 use Prim.Native.Nat.{ℕ}
+use mathlib.Core.Path.{_≡_, refl}
 use mathlib.Core.Option.{Option}
 use Rattle.state.specs.Maps.{Text, Map}
 use Rattle.state.specs.Records.{AuthorityPosition, ObjectReference, PreparedPublication, SnapshotLeaseToken, CollectionJobToken, DeletePermit, State}
@@ -154,3 +155,46 @@ set-collection-jobs x s = state
     s.observed-commit-frontier s.retention-window s.retention-policy-epoch s.policy-floor
     s.minimum-readable-version s.physically-collected-through s.lease-clock-tick s.lease-epoch
     s.leases s.range-map-epoch s.collection-root x
+
+-- A setter changes its own field alone: to set what is there changes nothing, and what is set is there.
+pub set-same : (s : State) →
+    (set-revision s.revision s ≡ s) ×
+    (set-root-intent-epoch s.root-intent-epoch s ≡ s) ×
+    (set-intents s.intents s ≡ s) ×
+    (set-roots s.roots s ≡ s) ×
+    (set-pins s.pins s ≡ s) ×
+    (set-deletion-reservations s.deletion-reservations s ≡ s) ×
+    (set-observed-commit-frontier s.observed-commit-frontier s ≡ s) ×
+    (set-retention-window s.retention-window s ≡ s) ×
+    (set-retention-policy-epoch s.retention-policy-epoch s ≡ s) ×
+    (set-policy-floor s.policy-floor s ≡ s) ×
+    (set-minimum-readable-version s.minimum-readable-version s ≡ s) ×
+    (set-physically-collected-through s.physically-collected-through s ≡ s) ×
+    (set-lease-clock-tick s.lease-clock-tick s ≡ s) ×
+    (set-lease-epoch s.lease-epoch s ≡ s) ×
+    (set-leases s.leases s ≡ s) ×
+    (set-range-map-epoch s.range-map-epoch s ≡ s) ×
+    (set-collection-root s.collection-root s ≡ s) ×
+    (set-collection-jobs s.collection-jobs s ≡ s)
+set-same s = (refl, refl, refl, refl, refl, refl, refl, refl, refl, refl, refl, refl, refl, refl, refl, refl, refl, refl)
+
+pub set-there : (s : State) (n : ℕ) (p : AuthorityPosition) (i : Map PreparedPublication) (r : Map ObjectReference) (d : Map DeletePermit) (w : Option ℕ) (l : Map SnapshotLeaseToken) (t : Option Text) (j : Map CollectionJobToken) →
+    ((set-revision p s) .revision ≡ p) ×
+    ((set-root-intent-epoch n s) .root-intent-epoch ≡ n) ×
+    ((set-intents i s) .intents ≡ i) ×
+    ((set-roots r s) .roots ≡ r) ×
+    ((set-pins r s) .pins ≡ r) ×
+    ((set-deletion-reservations d s) .deletion-reservations ≡ d) ×
+    ((set-observed-commit-frontier n s) .observed-commit-frontier ≡ n) ×
+    ((set-retention-window w s) .retention-window ≡ w) ×
+    ((set-retention-policy-epoch n s) .retention-policy-epoch ≡ n) ×
+    ((set-policy-floor n s) .policy-floor ≡ n) ×
+    ((set-minimum-readable-version n s) .minimum-readable-version ≡ n) ×
+    ((set-physically-collected-through n s) .physically-collected-through ≡ n) ×
+    ((set-lease-clock-tick n s) .lease-clock-tick ≡ n) ×
+    ((set-lease-epoch n s) .lease-epoch ≡ n) ×
+    ((set-leases l s) .leases ≡ l) ×
+    ((set-range-map-epoch n s) .range-map-epoch ≡ n) ×
+    ((set-collection-root t s) .collection-root ≡ t) ×
+    ((set-collection-jobs j s) .collection-jobs ≡ j)
+set-there s n p i r d w l t j = (refl, refl, refl, refl, refl, refl, refl, refl, refl, refl, refl, refl, refl, refl, refl, refl, refl, refl)

@@ -1,12 +1,10 @@
 -- Strictly ascending maps: `insert` and `remove` keep them so.
 -- Assumes nothing.
-use Prim.Native.Nat.{ℕ}
 use mathlib.Core.Path.{_≡_, refl, sym, _∙_, ap, subst}
 use mathlib.Core.List.{List, [], _∷_}
-use mathlib.Core.Bool.{Bool, true, false, cond}
+use mathlib.Core.Bool.{cond}
 use Rattle.text.specs.Order.{orderOf}
 use Rattle.text.specs.OrderLaws.{flip, order-flip, order-equal, order-trans}
-use Rattle.text.specs.declared.Order.{Order}
 use Rattle.text.specs.declared.Order.the-variants.{Less, Equal, Greater}
 use Rattle.state.specs.Maps.{Text, same, side, Map, _⟼_, insert, remove, remove-all}
 use Rattle.state.specs.MapLaws.{by-test}
