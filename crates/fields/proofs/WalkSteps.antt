@@ -1,5 +1,5 @@
 -- One step of each walker at a position, for each way out of it.
-use Prim.Native.Nat.{ℕ, zero, suc, _+_, _-_, _≤_, _<_, min}
+use Prim.Native.Nat.{ℕ, zero, suc, _+_, _-_, _≤_, _<_}
 use native.Mathlib.Omega.{arith}
 use native.Mathlib.Nat.{add-sub-cancel-left}
 use native.Mathlib.Numerals.{add-one}
@@ -9,15 +9,15 @@ use mathlib.Core.Option.{Option, none, some}
 use mathlib.Core.Path.{_≡_, refl, sym, ap, _∙_}
 use lib.ListN.{length, take, drop, getD, length-append, length-drop, drop-of-length-le}
 use lib.Seq.{drop-cons, drop-drop, take-append-seam}
-use lib.Dec.{leb, eqb}
-use borrow.Author.Tests.{lt-ltb, le-ltb, le-leb, lt-leb, eq-eqb, ne-eqb, leb-true, leb-false}
+use lib.Dec.{eqb}
+use borrow.Author.Tests.{lt-ltb, le-ltb, le-leb, lt-leb, eq-eqb, ne-eqb}
 use Rattle.text.specs.Order.{orderOf}
 use Rattle.text.specs.declared.Order.{Order}
 use Rattle.text.specs.Utf8.{utf8}
 use Rattle.fields.specs.Format.{Malformed, OverLimit, NotUtf8, Res, ok, bad, bind, byte, many, read-kind, read-text, is-less, after, rows, itself, read-set}
 use Rattle.fields.specs.FormatLaws.{text-shape}
 use Rattle.fields.specs.Codes.{Code, then-none, set-most, key-limit, read-flag, step, advance, walk, codeOf, codesOf}
-use Rattle.fields.specs.Walks.{placeOf, walkOf, stepOf, onward, part, Ended, ended, faulted, stepped, stopped, text-leaves, advance-leaves, walk-leaves}
+use Rattle.fields.specs.Walks.{placeOf, end-at, walkOf, stepOf, onward, part, Ended, ended, faulted, stepped, stopped, text-leaves, advance-leaves, walk-leaves}
 use Rattle.fields.specs.Rows.{text-here, walk-rows}
 use Rattle.fields.specs.declared.Walk.{Walk}
 use Rattle.fields.specs.declared.Walk.the-variants.{End, Fault}
@@ -39,10 +39,6 @@ module _ (s : List ℕ) (at : ℕ) where
   pub many-none : (n : ℕ) → length s - at < n → many n (drop at s) ≡ bad Malformed
   unfolding many
   many-none n h = rw (lt-leb n (length (drop at s)) (rw length-drop h))
-
--- where the rest starts
-pub end-at : (s : List ℕ) (e : ℕ) → e ≤ length s → placeOf s (drop e s) ≡ e
-end-at s e h = rw length-drop (omega arith)
 
 -- ---- each kind of field, at each answer
 
@@ -241,14 +237,6 @@ step-pass s (suc k) c at h j = let z : suc k - 1 ≡ k = omega arith in rw (end-
 pub step-here : (s : List ℕ) (k : ℕ) (c : Code) (at : ℕ) → k ≡ 0 → stepOf s (advance k c (drop at s)) ≡ stepOf s (step c (drop at s))
 unfolding advance
 step-here s k c at h = rw h
-
--- a place past the end is the end
-pub drop-within : (s : List ℕ) (at : ℕ) → drop (min at (length s)) s ≡ drop at s
-drop-within s at = go (leb at (length s)) refl
-  where
-    go : (b : Bool) → leb at (length s) ≡ b → drop (min at (length s)) s ≡ drop at s
-    go true h = let k : at ≤ length s = leb-true _ _ h in let z : min at (length s) ≡ at = omega arith in rw z
-    go false h = let k : length s < at = leb-false _ _ h in let z : length s ≤ min at (length s) = omega arith in let y : length s ≤ at = omega arith in drop-of-length-le s z ∙ sym (drop-of-length-le s y)
 
 module _ (cs s : List ℕ) (i p k : ℕ) where
   pub walk-end : length cs ≤ i → p ≤ length s → walkOf s (walk k (codesOf (drop i cs)) (drop p s)) ≡ End p

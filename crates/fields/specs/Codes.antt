@@ -127,13 +127,17 @@ abbrev pub is-absent : List ℕ → Bool
 is-absent [] = false
 is-absent (x ∷ s) = eqb x 0
 
+-- where the byte of an option is 0, the codes of its value are passed over
+abbrev pub absent-codes : ℕ → List ℕ → ℕ
+absent-codes n s = cond (is-absent s) n 0
+
 -- how many codes after this one are passed over
 unfoldable pub passed : Code → List ℕ → ℕ
 passed (a-number n) s = 0
 passed a-kind s = 0
 passed (a-text n) s = 0
 passed (a-set m n) s = 0
-passed (maybe n) s = cond (is-absent s) n 0
+passed (maybe n) s = absent-codes n s
 
 unfoldable pub skip : ℕ → List Code → List ℕ → List ℕ
 skip k [] s = s

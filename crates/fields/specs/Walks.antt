@@ -1,5 +1,5 @@
 -- A walk over a slice from a position: where it ends, or the first fault.
-use Prim.Native.Nat.{ℕ, zero, suc, _+_, _-_, _≤_, _<_}
+use Prim.Native.Nat.{ℕ, zero, suc, _+_, _-_, _≤_, _<_, min}
 use native.Mathlib.Omega.{arith}
 use mathlib.Core.Bool.{Bool, true, false}
 use mathlib.Core.List.{List, [], _∷_}
@@ -39,6 +39,19 @@ onward (Fault e) = Stop e
 -- the bytes from a up to e
 abbrev pub part : List ℕ → ℕ → ℕ → List ℕ
 part s a e = take (e - a) (drop a s)
+
+-- ---- places
+
+pub end-at : (s : List ℕ) (e : ℕ) → e ≤ length s → placeOf s (drop e s) ≡ e
+end-at s e h = rw length-drop (omega arith)
+
+-- a place past the end is the end
+pub drop-within : (s : List ℕ) (at : ℕ) → drop (min at (length s)) s ≡ drop at s
+drop-within s at = go (leb at (length s)) refl
+  where
+    go : (b : Bool) → leb at (length s) ≡ b → drop (min at (length s)) s ≡ drop at s
+    go true h = let k : at ≤ length s = leb-true _ _ h in let z : min at (length s) ≡ at = omega arith in rw z
+    go false h = let k : length s < at = leb-false _ _ h in let z : length s ≤ min at (length s) = omega arith in let y : length s ≤ at = omega arith in drop-of-length-le s z ∙ sym (drop-of-length-le s y)
 
 -- ---- a rest is what is left after some bytes
 

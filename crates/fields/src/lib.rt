@@ -188,7 +188,7 @@ fn walk_or_pass(over: usize, code: u8, s: &[u8], at: usize) -> Step
 }
 
 // A place no later than the end.
-fn within(s: &[u8], at: usize) -> usize
+pub fn within(s: &[u8], at: usize) -> usize
     ensures { λ r. ⌜ r ≡ min at (length (now (s .entry))) ⌝ }
 {
     if s.len() < at { s.len() } else { at }

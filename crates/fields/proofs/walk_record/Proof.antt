@@ -3,8 +3,8 @@ use mathlib.Core.Path.{_≡_, sym, _∙_, ap}
 use native.Mathlib.Omega.{arith}
 use lib.ListN.{length, drop}
 use Rattle.fields.specs.Codes.{walk, codesOf}
-use Rattle.fields.specs.Walks.{walkOf}
-use Rattle.fields.proofs.WalkSteps.{walk-end, walk-stop, walk-next, drop-within}
+use Rattle.fields.specs.Walks.{walkOf, drop-within}
+use Rattle.fields.proofs.WalkSteps.{walk-end, walk-stop, walk-next}
 use borrow.Author.Needs.{needs}
 use Rattle.fields.proofs.walk_record.Statement.{statement}
 use Rattle.fields.proofs.walk_record.Tie as tie

@@ -6,9 +6,9 @@ use native.Mathlib.Nat.{sub-zero}
 use borrow.Author.Tests.{not-true, not-false}
 use lib.ListN.{length, drop}
 use Rattle.fields.specs.Codes.{codesOf}
-use Rattle.fields.specs.Walks.{walkOf}
+use Rattle.fields.specs.Walks.{walkOf, drop-within}
 use Rattle.fields.specs.Rows.{walk-rows}
-use Rattle.fields.proofs.WalkSteps.{prevRow, rows-follow, rows-none, rows-fault, row-ended, rows-order, rows-more, drop-within}
+use Rattle.fields.proofs.WalkSteps.{prevRow, rows-follow, rows-none, rows-fault, row-ended, rows-order, rows-more}
 use borrow.Author.Needs.{needs}
 use Rattle.fields.proofs.walk_rows.Statement.{statement}
 use Rattle.fields.proofs.walk_rows.Tie as tie
