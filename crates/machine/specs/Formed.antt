@@ -31,13 +31,16 @@ pub record Table {A : Type 0} (P : Text → A → Type 0) (m : Map A) : Type 0 w
   pub ascending : Ascending m
   pub each : Each P m
 
-pub record PositionFits (p : AuthorityPosition) : Type 0 where
-  pub term : Number (p .term)
-  pub index : Number (p .index)
+-- one fact after the other, nested to the right as the fields of a format are
+infixr 30 _⊗_
+abbrev pub _⊗_ : Type 0 → Type 0 → Type 0
+A ⊗ B = A × B
 
-pub record ContextFits (c : AuthorityContext) : Type 0 where
-  pub generation : Number (c .generation)
-  pub position : PositionFits (c .position)
+abbrev pub PositionFits : AuthorityPosition → Type 0
+PositionFits p = Number (p .term) ⊗ Number (p .index)
+
+abbrev pub ContextFits : AuthorityContext → Type 0
+ContextFits c = Number (c .generation) ⊗ PositionFits (c .position)
 
 -- the numbers of a state
 pub record Numbers (format-version root-intent-epoch observed-commit-frontier retention-policy-epoch policy-floor minimum-readable-version physically-collected-through lease-clock-tick lease-epoch range-map-epoch : ℕ) : Type 0 where
@@ -53,68 +56,41 @@ pub record Numbers (format-version root-intent-epoch observed-commit-frontier re
   pub range-map-epoch-fits : range-map-epoch < 2 ^ 64
 
 module _ (T : Texts) where
-  pub record RevisionFits (r : RevisionToken) : Type 0 where
-    pub e-tag : Maybe (T .Name) (r .e-tag)
-    pub version : Maybe (T .Name) (r .version)
+  -- THE RECORDS, field by field
+  abbrev pub RevisionFits : RevisionToken → Type 0
+  RevisionFits r = Maybe (T .Name) (r .e-tag) ⊗ Maybe (T .Name) (r .version)
 
-  pub record IdentityFits (i : ObjectIdentity) : Type 0 where
-    pub revision : RevisionFits (i .revision)
-    pub length : Number (i .length)
-    pub sha256 : T .Name (i .sha256)
+  abbrev pub IdentityFits : ObjectIdentity → Type 0
+  IdentityFits i = RevisionFits (i .revision) ⊗ Number (i .length) ⊗ T .Name (i .sha256)
 
-  pub record ReferenceFits (r : ObjectReference) : Type 0 where
-    pub key : T .Key (r .key)
-    pub length : Number (r .length)
-    pub sha256 : T .Name (r .sha256)
+  -- of a kind nothing is asked
+  abbrev pub ReferenceFits : ObjectReference → Type 0
+  ReferenceFits r = Unit {0} ⊗ T .Key (r .key) ⊗ Number (r .length) ⊗ T .Name (r .sha256)
 
-  pub record IntentFits (i : PublicationIntent) : Type 0 where
-    pub object-keys : T .Keys (i .object-keys)
-    pub manifest : ReferenceFits (i .manifest)
-    pub destination-root : T .Name (i .destination-root)
-    pub expected-prior-root : Maybe ReferenceFits (i .expected-prior-root)
+  abbrev pub IntentFits : PublicationIntent → Type 0
+  IntentFits i = T .Keys (i .object-keys) ⊗ ReferenceFits (i .manifest) ⊗ T .Name (i .destination-root) ⊗ Maybe ReferenceFits (i .expected-prior-root)
 
-  pub record PreparedFits (p : PreparedPublication) : Type 0 where
-    pub owner-generation : Number (p .owner-generation)
-    pub intent : IntentFits (p .intent)
+  abbrev pub PreparedFits : PreparedPublication → Type 0
+  PreparedFits p = Number (p .owner-generation) ⊗ IntentFits (p .intent)
 
-  pub record ClosureFits (c : SnapshotClosure) : Type 0 where
-    pub manifest : ReferenceFits (c .manifest)
-    pub object-keys : T .Keys (c .object-keys)
+  abbrev pub ClosureFits : SnapshotClosure → Type 0
+  ClosureFits c = ReferenceFits (c .manifest) ⊗ T .Keys (c .object-keys)
 
-  pub record LeaseFits (t : SnapshotLeaseToken) : Type 0 where
-    pub lease-id : T .Name (t .lease-id)
-    pub tenant-id : T .Name (t .tenant-id)
-    pub snapshot-version : Number (t .snapshot-version)
-    pub lease-epoch : Number (t .lease-epoch)
-    pub owner : T .Name (t .owner)
-    pub purpose : T .Name (t .purpose)
-    pub deadline-tick : Number (t .deadline-tick)
-    pub closure : ClosureFits (t .closure)
-    pub owner-generation : Number (t .owner-generation)
-    pub authority-position : PositionFits (t .authority-position)
+  abbrev pub LeaseFits : SnapshotLeaseToken → Type 0
+  LeaseFits t =
+      T .Name (t .lease-id) ⊗ T .Name (t .tenant-id) ⊗ Number (t .snapshot-version) ⊗ Number (t .lease-epoch) ⊗ T .Name (t .owner)
+      ⊗ T .Name (t .purpose) ⊗ Number (t .deadline-tick) ⊗ ClosureFits (t .closure) ⊗ Number (t .owner-generation) ⊗ PositionFits (t .authority-position)
 
-  pub record JobFits (j : CollectionJobToken) : Type 0 where
-    pub job-id : T .Name (j .job-id)
-    pub owner-generation : Number (j .owner-generation)
-    pub authority-position : PositionFits (j .authority-position)
-    pub frozen-floor : Number (j .frozen-floor)
-    pub input-manifest : ReferenceFits (j .input-manifest)
-    pub destination-root : T .Name (j .destination-root)
-    pub range-map-epoch : Number (j .range-map-epoch)
-    pub expected-collected-through : Number (j .expected-collected-through)
-    pub output-namespace : T .Key (j .output-namespace)
+  abbrev pub JobFits : CollectionJobToken → Type 0
+  JobFits j =
+      T .Name (j .job-id) ⊗ Number (j .owner-generation) ⊗ PositionFits (j .authority-position) ⊗ Number (j .frozen-floor) ⊗ ReferenceFits (j .input-manifest)
+      ⊗ T .Name (j .destination-root) ⊗ Number (j .range-map-epoch) ⊗ Number (j .expected-collected-through) ⊗ T .Key (j .output-namespace)
 
-  pub record ReceiptFits (r : CollectionReceipt) : Type 0 where
-    pub token : JobFits (r .token)
-    pub output-manifest : ReferenceFits (r .output-manifest)
-    pub object-keys : T .Keys (r .object-keys)
+  abbrev pub ReceiptFits : CollectionReceipt → Type 0
+  ReceiptFits r = JobFits (r .token) ⊗ ReferenceFits (r .output-manifest) ⊗ T .Keys (r .object-keys)
 
-  pub record PermitFits (p : DeletePermit) : Type 0 where
-    pub key : T .Key (p .key)
-    pub identity : IdentityFits (p .identity)
-    pub plan-id : T .Name (p .plan-id)
-    pub owner-generation : Number (p .owner-generation)
-    pub authority-position : PositionFits (p .authority-position)
+  abbrev pub PermitFits : DeletePermit → Type 0
+  PermitFits p = T .Key (p .key) ⊗ IdentityFits (p .identity) ⊗ T .Name (p .plan-id) ⊗ Number (p .owner-generation) ⊗ PositionFits (p .authority-position)
 
   -- what stands in each map, under which key
   abbrev pub IntentAt : Text → PreparedPublication → Type 0
@@ -147,21 +123,21 @@ module _ (T : Texts) where
   -- a request within the widths, and an outcome
   abbrev pub ActionFits : Action → Type 0
   ActionFits (ObserveCommittedFrontier n) = Number n
-  ActionFits (SetRetentionWindow e w) = Number e × Number w
+  ActionFits (SetRetentionWindow e w) = Number e ⊗ Number w
   ActionFits (ObserveRangeMapEpoch e) = Number e
-  ActionFits (ConfigureCollectionRoot x r) = Maybe (T .Name) x × T .Name r
-  ActionFits (AcquireLease id t v o p d c) = T .Name id × T .Name t × Number v × T .Name o × T .Name p × Number d × ClosureFits c
-  ActionFits (RenewLease id e d) = T .Name id × Number e × Number d
-  ActionFits (ReleaseLease id e) = T .Name id × Number e
-  ActionFits (AdvanceLeaseClock e n) = Number e × Number n
-  ActionFits (PrepareCollection id f m r e x ns) = T .Name id × Number f × ReferenceFits m × T .Name r × Number e × Number x × T .Key ns
+  ActionFits (ConfigureCollectionRoot x r) = Maybe (T .Name) x ⊗ T .Name r
+  ActionFits (AcquireLease id t v o p d c) = T .Name id ⊗ T .Name t ⊗ Number v ⊗ T .Name o ⊗ T .Name p ⊗ Number d ⊗ ClosureFits c
+  ActionFits (RenewLease id e d) = T .Name id ⊗ Number e ⊗ Number d
+  ActionFits (ReleaseLease id e) = T .Name id ⊗ Number e
+  ActionFits (AdvanceLeaseClock e n) = Number e ⊗ Number n
+  ActionFits (PrepareCollection id f m r e x ns) = T .Name id ⊗ Number f ⊗ ReferenceFits m ⊗ T .Name r ⊗ Number e ⊗ Number x ⊗ T .Key ns
   ActionFits (PublishCollection r) = ReceiptFits r
   ActionFits (AbandonCollection t) = JobFits t
-  ActionFits (Prepare id i) = T .Name id × IntentFits i
-  ActionFits (Publish id r x m) = T .Name id × T .Name r × Maybe ReferenceFits x × ReferenceFits m
-  ActionFits (Pin id x m) = T .Name id × Maybe ReferenceFits x × ReferenceFits m
-  ActionFits (Unpin id x) = T .Name id × ReferenceFits x
-  ActionFits (ReserveDelete p e k i) = T .Name p × Number e × T .Key k × IdentityFits i
+  ActionFits (Prepare id i) = T .Name id ⊗ IntentFits i
+  ActionFits (Publish id r x m) = T .Name id ⊗ T .Name r ⊗ Maybe ReferenceFits x ⊗ ReferenceFits m
+  ActionFits (Pin id x m) = T .Name id ⊗ Maybe ReferenceFits x ⊗ ReferenceFits m
+  ActionFits (Unpin id x) = T .Name id ⊗ ReferenceFits x
+  ActionFits (ReserveDelete p e k i) = T .Name p ⊗ Number e ⊗ T .Key k ⊗ IdentityFits i
   ActionFits (RetireDelete p) = PermitFits p
 
   abbrev pub OutcomeFits : Outcome → Type 0

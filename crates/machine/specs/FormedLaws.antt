@@ -146,11 +146,15 @@ module _ (T : Texts) where
     act-formed (ObserveRangeMapEpoch e) c h k = λ _ _. (keep-range-map-epoch e h w, tt)
     act-formed (ConfigureCollectionRoot x r) c h k = λ _ _ _ _. (bumped (keep-collection-root (some r) (h .1) w), tt)
     act-formed (AcquireLease id t v o p d q) c h k = λ _ _ _ _ _ _ _ _ _ _ _.
-        both (record { lease-id = h .0; tenant-id = h .1; snapshot-version = h .2; lease-epoch = up-fits (s .lease-epoch); owner = h .3; purpose = h .4; deadline-tick = h .5; closure = h .6; owner-generation = k .generation; authority-position = k .position }) (λ new.
+        let r = h .1 .1 in
+        let x = r .1 .1 in
+        both (h .0, (h .1 .0, (r .0, (up-fits (s .lease-epoch), (r .1 .0, (x .0, (x .1 .0, (x .1 .1, k)))))))) (λ new.
         floored (bumped-unless (keep-leases _ (table-insert (LeaseAt T) id _ (s .leases) (refl, new) (w .leases)) (keep-lease-epoch _ (up-fits (s .lease-epoch)) w)) (f .omit-lease-root-epoch)))
     act-formed (RenewLease id e d) c h k = λ old at _ _ _.
         let o = each-lookup (LeaseAt T) id old (s .leases) (w .leases .each) at in
-        both (record { lease-id = o .1 .lease-id; tenant-id = o .1 .tenant-id; snapshot-version = o .1 .snapshot-version; lease-epoch = up-fits (s .lease-epoch); owner = o .1 .owner; purpose = o .1 .purpose; deadline-tick = h .2; closure = o .1 .closure; owner-generation = k .generation; authority-position = k .position }) (λ new.
+        let r = o .1 .1 in
+        let x = r .1 .1 .1 in
+        both (o .1 .0, (r .0, (r .1 .0, (up-fits (s .lease-epoch), (x .0, (x .1 .0, (h .1 .1, (x .1 .1 .1 .0, k)))))))) (λ new.
         bumped-unless (keep-leases _ (table-insert (LeaseAt T) id _ (s .leases) (o .0, new) (w .leases)) (keep-lease-epoch _ (up-fits (s .lease-epoch)) w)) (f .omit-lease-root-epoch))
     act-formed (ReleaseLease id e) c h k = λ _ _ _.
         (floored (bumped-unless (keep-lease-epoch _ (up-fits (s .lease-epoch)) (keep-leases _ (table-remove (LeaseAt T) id (s .leases) (w .leases)) w)) (f .omit-lease-root-epoch)), tt)
@@ -158,22 +162,22 @@ module _ (T : Texts) where
         let ids = expired s d in
         let root = either (f .omit-lease-root-epoch) _ _ (w .numbers .root-intent-epoch-fits) (moved-fits ids (s .root-intent-epoch) (w .numbers .root-intent-epoch-fits)) in (
           floored (keep-root-intent-epoch _ root (keep-lease-epoch _ (moved-fits ids (s .lease-epoch) (w .numbers .lease-epoch-fits)) (keep-leases _ (table-remove-all (LeaseAt T) ids (s .leases) (w .leases)) (keep-lease-clock-tick d (h .1) w)))),
-          each-keys (LeaseAt T) (T .Name) _ (λ j t g. subst (T .Name) (g .0) (g .1 .lease-id)) (s .leases) (w .leases .each),
+          each-keys (LeaseAt T) (T .Name) _ (λ j t g. subst (T .Name) (g .0) (g .1 .0)) (s .leases) (w .leases .each),
         )
     act-formed (PrepareCollection id n m r e x ns) c h k = λ _ _ _ _ _ _ _ _ _ _ _ _ _ _ _ _.
-        both (record { job-id = h .0; owner-generation = k .generation; authority-position = k .position; frozen-floor = h .1; input-manifest = h .2; destination-root = h .3; range-map-epoch = h .4; expected-collected-through = h .5; output-namespace = h .6 }) (λ new.
-        bumped (keep-physically-collected-through _ (either (f .advance-collection-without-publication) _ _ (h .1) (w .numbers .physically-collected-through-fits)) (keep-collection-jobs _ (table-insert (JobAt T) id _ (s .collection-jobs) (refl, new) (w .collection-jobs)) w)))
+        both (h .0, (k .0, (k .1, h .1))) (λ new.
+        bumped (keep-physically-collected-through _ (either (f .advance-collection-without-publication) _ _ (h .1 .0) (w .numbers .physically-collected-through-fits)) (keep-collection-jobs _ (table-insert (JobAt T) id _ (s .collection-jobs) (refl, new) (w .collection-jobs)) w)))
     act-formed (PublishCollection r) c h k = λ _ _ job at _ _ _ _ _ _ _.
-        let j = each-lookup (JobAt T) _ job (s .collection-jobs) (w .collection-jobs .each) at .1 in
-        (bumped (keep-collection-jobs _ (table-remove (JobAt T) _ (s .collection-jobs) (w .collection-jobs)) (keep-physically-collected-through _ (j .frozen-floor) (keep-roots _ (table-insert (ReferenceAt T) _ _ (s .roots) (j .destination-root, h .output-manifest) (w .roots)) w))), h)
+        let j = each-lookup (JobAt T) _ job (s .collection-jobs) (w .collection-jobs .each) at .1 .1 .1 .1 in
+        (bumped (keep-collection-jobs _ (table-remove (JobAt T) _ (s .collection-jobs) (w .collection-jobs)) (keep-physically-collected-through _ (j .0) (keep-roots _ (table-insert (ReferenceAt T) _ _ (s .roots) (j .1 .1 .0, h .1 .0) (w .roots)) w))), h)
     act-formed (AbandonCollection t) c h k = λ _ _ _ _. (bumped (keep-collection-jobs _ (table-remove (JobAt T) _ (s .collection-jobs) (w .collection-jobs)) w), tt)
-    act-formed (Prepare id t) c h k = λ _ _ _ _. (bumped (keep-intents _ (table-insert (IntentAt T) id _ (s .intents) (h .0, record { owner-generation = k .generation; intent = h .1 }) (w .intents)) w), tt)
+    act-formed (Prepare id t) c h k = λ _ _ _ _. (bumped (keep-intents _ (table-insert (IntentAt T) id _ (s .intents) (h .0, (k .0, h .1)) (w .intents)) w), tt)
     act-formed (Publish id r x m) c h k = λ _ _ _ _ _ _ _ _.
-        (bumped (keep-intents _ (table-remove (IntentAt T) id (s .intents) (w .intents)) (keep-roots _ (table-insert (ReferenceAt T) r m (s .roots) (h .1, h .3) (w .roots)) w)), tt)
-    act-formed (Pin id x m) c h k = λ _ _ _ _. (bumped (keep-pins _ (table-insert (ReferenceAt T) id m (s .pins) (h .0, h .2) (w .pins)) w), tt)
+        (bumped (keep-intents _ (table-remove (IntentAt T) id (s .intents) (w .intents)) (keep-roots _ (table-insert (ReferenceAt T) r m (s .roots) (h .1 .0, h .1 .1 .1) (w .roots)) w)), tt)
+    act-formed (Pin id x m) c h k = λ _ _ _ _. (bumped (keep-pins _ (table-insert (ReferenceAt T) id m (s .pins) (h .0, h .1 .1) (w .pins)) w), tt)
     act-formed (Unpin id x) c h k = λ _ _ _. (bumped (keep-pins _ (table-remove (ReferenceAt T) id (s .pins) (w .pins)) w), tt)
     act-formed (ReserveDelete p e x i) c h k = λ _ _ _ _ _ _ _ _.
-        both (record { key = h .2; identity = h .3; plan-id = h .0; owner-generation = k .generation; authority-position = k .position }) (λ new.
+        both (h .1 .1 .0, (h .1 .1 .1, (h .0, k))) (λ new.
         keep-deletion-reservations _ (table-insert (PermitAt T) x _ (s .deletion-reservations) (refl, new) (w .deletion-reservations)) w)
     act-formed (RetireDelete p) c h k = λ _ _ _ _. (keep-deletion-reservations _ (table-remove (PermitAt T) (p .key) (s .deletion-reservations) (w .deletion-reservations)) w, tt)
 
@@ -183,4 +187,4 @@ module _ (T : Texts) where
   unfolding apply rule
   apply-formed s a c f w h k = stamped (λ s′ o. Formed T s′ × OutcomeFits T o) (c .position) (decide (rule s a c f)) (λ s₁ o₁ q.
       let z = accepts (Still s f w) (rule s a c f) (λ _ _. act-formed s f w a c h k) s₁ o₁ q in
-      (keep-revision (c .position) (k .position) (z .0), z .1))
+      (keep-revision (c .position) (k .1) (z .0), z .1))
