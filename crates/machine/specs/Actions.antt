@@ -1,10 +1,8 @@
 -- What a call asks, what it answers, and the chains of tests in between.
 use Prim.Native.Nat.{ℕ}
-use mathlib.Core.Path.{_≡_, refl, subst}
 use mathlib.Core.List.{List}
 use mathlib.Core.Option.{Option, none, some}
 use mathlib.Core.Bool.{Bool, true, false}
-use native.Mathlib.Omega.{arith}
 use Rattle.state.specs.Maps.{Text}
 use Rattle.state.specs.Records.{ObjectIdentity, ObjectReference, PublicationIntent, SnapshotClosure, SnapshotLeaseToken, CollectionJobToken, CollectionReceipt, DeletePermit, State}
 
@@ -70,23 +68,3 @@ _>>_ (refuse n if b) r = refuse-or n b r
 
 abbrev pub _>>=_ : {A : Type 0} → Lookup A → (A → Rule) → Rule
 _>>=_ (found o else n) k = find-or n o k
-
--- WHAT AN ACCEPTANCE TELLS: P holds of every state and outcome that the rule accepts with.
-abbrev pub Accepts : (State → Outcome → Type 0) → Rule → Type 0
-Accepts P (refuse-or n b r) = b ≡ false → Accepts P r
-Accepts P (find-or {A = A} n x k) = (v : A) → x ≡ some v → Accepts P (k v)
-Accepts P (accept s o) = P s o
-
-pub not-accepted {ℓ} : {B : Type ℓ} {n : ℕ} {s : State} {o : Outcome} → rejected n ≡ accepted s o → B
-not-accepted e = let z : _≡_ {A = ℕ} 0 1 = cc in absurd (omega arith)
-
-pub not-rejected {ℓ} : {B : Type ℓ} {n : ℕ} {s : State} {o : Outcome} → accepted s o ≡ rejected n → B
-not-rejected e = let z : _≡_ {A = ℕ} 0 1 = cc in absurd (omega arith)
-
-pub accepts : (P : State → Outcome → Type 0) (r : Rule) → Accepts P r → (s : State) (o : Outcome) → decide r ≡ accepted s o → P s o
-unfolding decide
-accepts P (refuse-or n true r) h s o e = not-accepted e
-accepts P (refuse-or n false r) h s o e = accepts P r (h refl) s o e
-accepts P (find-or n none k) h s o e = not-accepted e
-accepts P (find-or n (some x) k) h s o e = accepts P (k x) (h x refl) s o e
-accepts P (accept s′ o′) h s o e = let p : s′ ≡ s = cc in let q : o′ ≡ o = cc in subst (λ (x : State). P x o) p (subst (P s′) q h)

@@ -11,10 +11,10 @@ use Rattle.text.specs.SameLaws.{prefix-refl}
 use Rattle.state.specs.Maps.{Text, is-empty, starts-with, lookup}
 use Rattle.state.specs.MapLaws.{by-test}
 use Rattle.state.specs.Records.{AuthorityContext, ObjectIdentity, ObjectReference, PreparedPublication, DeletePermit, PublicationAuthorityFaults, State, every, revision-eq, is-manifest, valid-context, valid-reference}
-use Rattle.machine.specs.Actions.{Action, Outcome, rejected, accepted, decide, Accepts}
+use Rattle.machine.specs.Actions.{Action, Outcome, rejected, accepted, decide}
 use Rattle.machine.specs.Next.{up}
 use Rattle.machine.specs.Machine.{renew-lease, intent-matches, publish, reserve-delete, retire-delete, stamp, rule, apply}
-use Rattle.machine.specs.ApplyLaws.{stamped}
+use Rattle.machine.specs.ApplyLaws.{Accepts, stamped}
 
 -- Epochs stop at 2^64 - 1.
 pub epochs-stop : up (2 ^ 64 - 1) ≡ 2 ^ 64 - 1

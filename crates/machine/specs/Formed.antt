@@ -1,13 +1,13 @@
 -- WELL-FORMED STATES: each map ascends strictly; leases, jobs and permits stand under their own id or key; every number fits
--- its width; and every text passes a test that is left open here. The machine makes no new text, so any test is kept: none at
--- all for states of the Rust, the limits and UTF-8 for states of an image.
+-- its width; and every text and set passes a test that is left open here. The machine makes no new text, so any test is kept:
+-- that sets ascend, for states of the Rust; the limits and UTF-8 too, for states of an image.
 use Prim.Native.Nat.{ℕ, _<_, _^_}
 use mathlib.Core.Path.{_≡_}
 use mathlib.Core.List.{List}
 use mathlib.Core.Option.{Option, none, some}
 use Rattle.state.specs.Maps.{Text, Map, Every}
 use Rattle.state.specs.MapLaws.{Each}
-use Rattle.state.specs.Sorted.{Ascending}
+use Rattle.state.specs.Sorted.{Ascending, Rising}
 use Rattle.state.specs.Records.{AuthorityPosition, AuthorityContext, RevisionToken, ObjectIdentity, ObjectReference, PublicationIntent, PreparedPublication, SnapshotClosure, SnapshotLeaseToken, CollectionJobToken, CollectionReceipt, DeletePermit, State}
 use Rattle.machine.specs.Actions.{Action, ObserveCommittedFrontier, SetRetentionWindow, ObserveRangeMapEpoch, ConfigureCollectionRoot, AcquireLease, RenewLease, ReleaseLease, AdvanceLeaseClock, PrepareCollection, PublishCollection, AbandonCollection, Prepare, Publish, Pin, Unpin, ReserveDelete, RetireDelete, Outcome, Applied, DeleteReserved, LeaseAcquired, LeaseRenewed, LeasesExpired, CollectionPrepared, CollectionPublished}
 
@@ -17,8 +17,9 @@ pub record Texts : Type 1 where
   pub Name : Text → Type 0
   pub Keys : List Text → Type 0
 
-abbrev pub any-text : Texts
-any-text = record { Key = λ t. Unit {0}; Name = λ t. Unit {0}; Keys = λ ks. Unit {0} }
+-- what the Rust's types ask: nothing of a text, and that a set ascends strictly
+abbrev pub rust-texts : Texts
+rust-texts = record { Key = λ t. Unit {0}; Name = λ t. Unit {0}; Keys = Rising none }
 
 abbrev pub Number : ℕ → Type 0
 Number n = n < 2 ^ 64
@@ -120,7 +121,7 @@ module _ (T : Texts) where
     pub leases : Table LeaseAt (s .leases)
     pub collection-jobs : Table JobAt (s .collection-jobs)
 
-  -- a request within the widths, and an outcome
+  -- a request, and an outcome; the ids of ended leases are in their order
   abbrev pub ActionFits : Action → Type 0
   ActionFits (ObserveCommittedFrontier n) = Number n
   ActionFits (SetRetentionWindow e w) = Number e ⊗ Number w
@@ -145,6 +146,6 @@ module _ (T : Texts) where
   OutcomeFits (DeleteReserved p) = PermitFits p
   OutcomeFits (LeaseAcquired t) = LeaseFits t
   OutcomeFits (LeaseRenewed t) = LeaseFits t
-  OutcomeFits (LeasesExpired ids) = Every (T .Name) ids
+  OutcomeFits (LeasesExpired ids) = Every (T .Name) ids ⊗ Rising none ids
   OutcomeFits (CollectionPrepared t) = JobFits t
   OutcomeFits (CollectionPublished r) = ReceiptFits r

@@ -8,15 +8,15 @@ use mathlib.Core.Bool.{Bool, true, false, cond}
 use native.Mathlib.Omega.{arith}
 use Rattle.state.specs.Maps.{Text, Map, insert, remove, remove-all}
 use Rattle.state.specs.MapLaws.{each-insert, each-remove, each-remove-all, each-lookup, each-keys}
-use Rattle.state.specs.Sorted.{insert-ascending, remove-ascending, remove-all-ascending}
+use Rattle.state.specs.Sorted.{insert-ascending, remove-ascending, remove-all-ascending, keys-rising}
 use Rattle.state.specs.Records.{AuthorityPosition, AuthorityContext, ObjectReference, PreparedPublication, SnapshotLeaseToken, CollectionJobToken, DeletePermit, PublicationAuthorityFaults, State, default}
 use Rattle.state.specs.Setters.{set-revision, set-root-intent-epoch, set-intents, set-roots, set-pins, set-deletion-reservations, set-observed-commit-frontier, set-retention-window, set-retention-policy-epoch, set-policy-floor, set-minimum-readable-version, set-physically-collected-through, set-lease-clock-tick, set-lease-epoch, set-leases, set-range-map-epoch, set-collection-root, set-collection-jobs}
-use Rattle.machine.specs.Actions.{Action, ObserveCommittedFrontier, SetRetentionWindow, ObserveRangeMapEpoch, ConfigureCollectionRoot, AcquireLease, RenewLease, ReleaseLease, AdvanceLeaseClock, PrepareCollection, PublishCollection, AbandonCollection, Prepare, Publish, Pin, Unpin, ReserveDelete, RetireDelete, Outcome, accepted, decide, Accepts, accepts}
+use Rattle.machine.specs.Actions.{Action, ObserveCommittedFrontier, SetRetentionWindow, ObserveRangeMapEpoch, ConfigureCollectionRoot, AcquireLease, RenewLease, ReleaseLease, AdvanceLeaseClock, PrepareCollection, PublishCollection, AbandonCollection, Prepare, Publish, Pin, Unpin, ReserveDelete, RetireDelete, Outcome, accepted, decide}
 use Rattle.machine.specs.Next.{up, policy-for, readable-for, moved, expired, recompute-read-floor, bump-root, bump-root-unless}
 use Rattle.machine.specs.Machine.{observe-committed-frontier, set-retention-window as set-window, observe-range-map-epoch, configure-collection-root, acquire-lease, renew-lease, release-lease, advance-lease-clock, prepare-collection, publish-collection, abandon-collection, prepare, publish, pin, unpin, reserve-delete, retire-delete, act, rule, apply}
 use Rattle.machine.specs.Invariant.{oldest-floor}
-use Rattle.machine.specs.ApplyLaws.{stamped}
-use Rattle.machine.specs.Formed.{Texts, Number, Maybe, Table, PositionFits, ContextFits, Numbers, ReferenceAt, IntentAt, PermitAt, LeaseAt, JobAt, Formed, ActionFits, OutcomeFits}
+use Rattle.machine.specs.ApplyLaws.{Accepts, accepts, stamped}
+use Rattle.machine.specs.Formed.{Texts, rust-texts, Number, Maybe, Table, PositionFits, ContextFits, Numbers, ReferenceAt, IntentAt, PermitAt, LeaseAt, JobAt, Formed, ActionFits, OutcomeFits}
 
 -- NUMBERS that the machine computes
 up-fits : (n : ℕ) → up n < 2 ^ 64
@@ -162,7 +162,7 @@ module _ (T : Texts) where
         let ids = expired s d in
         let root = either (f .omit-lease-root-epoch) _ _ (w .numbers .root-intent-epoch-fits) (moved-fits ids (s .root-intent-epoch) (w .numbers .root-intent-epoch-fits)) in (
           floored (keep-root-intent-epoch _ root (keep-lease-epoch _ (moved-fits ids (s .lease-epoch) (w .numbers .lease-epoch-fits)) (keep-leases _ (table-remove-all (LeaseAt T) ids (s .leases) (w .leases)) (keep-lease-clock-tick d (h .1) w)))),
-          each-keys (LeaseAt T) (T .Name) _ (λ j t g. subst (T .Name) (g .0) (g .1 .0)) (s .leases) (w .leases .each),
+          (each-keys (LeaseAt T) (T .Name) _ (λ j t g. subst (T .Name) (g .0) (g .1 .0)) (s .leases) (w .leases .each), keys-rising _ (s .leases) (w .leases .ascending)),
         )
     act-formed (PrepareCollection id n m r e x ns) c h k = λ _ _ _ _ _ _ _ _ _ _ _ _ _ _ _ _.
         both (h .0, (k .0, (k .1, h .1))) (λ new.
@@ -188,3 +188,8 @@ module _ (T : Texts) where
   apply-formed s a c f w h k = stamped (λ s′ o. Formed T s′ × OutcomeFits T o) (c .position) (decide (rule s a c f)) (λ s₁ o₁ q.
       let z = accepts (Still s f w) (rule s a c f) (λ _ _. act-formed s f w a c h k) s₁ o₁ q in
       (keep-revision (c .position) (k .1) (z .0), z .1))
+
+-- so of the values of the Rust's types
+pub apply-well-formed : (s : State) (a : Action) (c : AuthorityContext) (f : PublicationAuthorityFaults) → Formed rust-texts s → ActionFits rust-texts a → ContextFits c
+    → (s′ : State) (o : Outcome) → apply s a c f ≡ accepted s′ o → Formed rust-texts s′ × OutcomeFits rust-texts o
+apply-well-formed = apply-formed rust-texts

@@ -16,10 +16,10 @@ use Rattle.state.specs.Maps.{Text, lookup, map-values}
 use Rattle.state.specs.MapLaws.{option-clash, by-test}
 use Rattle.state.specs.Records.{AuthorityContext, no-faults, State, default, SnapshotLeaseToken, lease-eq}
 use Rattle.state.specs.RecordLaws.{lease-sound, lease-refl}
-use Rattle.machine.specs.Actions.{Action, Outcome, Transition, rejected, accepted, decide, Accepts, accepts}
+use Rattle.machine.specs.Actions.{Action, Outcome, Transition, rejected, accepted, decide}
 use Rattle.machine.specs.Next.{top}
 use Rattle.machine.specs.Machine.{rule, apply, validate-found, validate}
-use Rattle.machine.specs.ApplyLaws.{stamped}
+use Rattle.machine.specs.ApplyLaws.{Accepts, accepts, stamped}
 use Rattle.machine.specs.Ledger.{Event, refused, took, issued, Ledger, empty, note, after, Last}
 use Rattle.machine.specs.Claims.{Step, Machine, image, events, ledger, five-of, Rises, Claims}
 use Rattle.machine.specs.Linked.{linked-live, linked-some, after-ended}

@@ -12,9 +12,10 @@ use Rattle.state.specs.Maps.{Text, Map, _⟼_, same, lookup, remove-all}
 use Rattle.state.specs.MapLaws.{no-way, option-clash, is-none, by-test, lookup-remove-all, found-insert, found-remove, any-value-false, keys-where-has}
 use Rattle.state.specs.Records.{AuthorityContext, no-faults, State, SnapshotClosure, SnapshotLeaseToken, CollectionJobToken, ObjectReference, PublicationIntent, CollectionReceipt, DeletePermit, ObjectIdentity, names}
 use Rattle.state.specs.Setters.{set-lease-clock-tick, set-lease-epoch, set-leases}
-use Rattle.machine.specs.Actions.{Action, ObserveCommittedFrontier, SetRetentionWindow, ObserveRangeMapEpoch, ConfigureCollectionRoot, AcquireLease, RenewLease, ReleaseLease, AdvanceLeaseClock, PrepareCollection, PublishCollection, AbandonCollection, Prepare, Publish, Pin, Unpin, ReserveDelete, RetireDelete, Outcome, Accepts}
+use Rattle.machine.specs.Actions.{Action, ObserveCommittedFrontier, SetRetentionWindow, ObserveRangeMapEpoch, ConfigureCollectionRoot, AcquireLease, RenewLease, ReleaseLease, AdvanceLeaseClock, PrepareCollection, PublishCollection, AbandonCollection, Prepare, Publish, Pin, Unpin, ReserveDelete, RetireDelete, Outcome}
 use Rattle.machine.specs.Next.{top, up, oldest, policy-for, readable-for, moved, expired}
 use Rattle.machine.specs.Machine.{observe-committed-frontier, set-retention-window, observe-range-map-epoch, configure-collection-root, acquire-lease, renew-lease, release-lease, advance-lease-clock, prepare-collection, publish-collection, abandon-collection, prepare, publish, pin, unpin, reserve-delete, retire-delete, act}
+use Rattle.machine.specs.ApplyLaws.{Accepts}
 use Rattle.machine.specs.Ledger.{took, permit-in, Lease, Ledger, note}
 use Rattle.machine.specs.Claims.{Five, five-of, Rises, Ordered}
 use Rattle.machine.specs.Linked.{Linked, raise, linked-live, begin-linked, renew-linked, end-linked, end-all-linked}

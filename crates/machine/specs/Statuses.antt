@@ -8,8 +8,9 @@ use lib.Dec.{leb}
 use borrow.Author.Tests.{leb-true}
 use Rattle.text.specs.SameLaws.{and-left, and-right}
 use Rattle.state.specs.Records.{AuthorityPosition, AuthorityContext, PublicationAuthorityFaults, State}
-use Rattle.machine.specs.Actions.{Action, ObserveCommittedFrontier, SetRetentionWindow, ObserveRangeMapEpoch, ConfigureCollectionRoot, AcquireLease, RenewLease, ReleaseLease, AdvanceLeaseClock, PrepareCollection, PublishCollection, AbandonCollection, Prepare, Publish, Pin, Unpin, ReserveDelete, RetireDelete, Transition, rejected, accepted, Rule, refuse-or, find-or, accept, decide, not-rejected}
+use Rattle.machine.specs.Actions.{Action, ObserveCommittedFrontier, SetRetentionWindow, ObserveRangeMapEpoch, ConfigureCollectionRoot, AcquireLease, RenewLease, ReleaseLease, AdvanceLeaseClock, PrepareCollection, PublishCollection, AbandonCollection, Prepare, Publish, Pin, Unpin, ReserveDelete, RetireDelete, Transition, rejected, accepted, Rule, refuse-or, find-or, accept, decide}
 use Rattle.machine.specs.Machine.{observe-committed-frontier, set-retention-window, observe-range-map-epoch, configure-collection-root, acquire-lease, renew-lease, release-lease, advance-lease-clock, prepare-collection, publish-collection, abandon-collection, prepare, publish, pin, unpin, reserve-delete, retire-delete, act, rule, stamp, apply}
+use Rattle.machine.specs.ApplyLaws.{not-rejected}
 
 abbrev Known : ℕ → Type 0
 Known n = leb 2 n && leb n 36 ≡ true

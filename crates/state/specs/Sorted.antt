@@ -1,12 +1,16 @@
 -- Strictly ascending maps: `insert` and `remove` keep them so.
 -- Assumes nothing.
+use Prim.Native.Nat.{suc, _≤_}
 use mathlib.Core.Path.{_≡_, refl, sym, _∙_, ap, subst}
 use mathlib.Core.List.{List, [], _∷_}
-use mathlib.Core.Bool.{cond}
+use mathlib.Core.Bool.{Bool, cond}
+use mathlib.Core.Option.{Option, none, some}
+use native.Mathlib.Omega.{arith}
+use lib.ListN.{length}
 use Rattle.text.specs.Order.{orderOf}
 use Rattle.text.specs.OrderLaws.{flip, order-flip, order-equal, order-trans}
 use Rattle.text.specs.declared.Order.the-variants.{Less, Equal, Greater}
-use Rattle.state.specs.Maps.{Text, same, side, Map, _⟼_, insert, remove, remove-all}
+use Rattle.state.specs.Maps.{Text, same, side, Map, _⟼_, insert, remove, remove-all, keys-where}
 use Rattle.state.specs.MapLaws.{by-test}
 
 abbrev pub Below : {A : Type 0} → Text → Map A → Type 0
@@ -52,3 +56,28 @@ module _ {A : Type 0} where
     | Equal ↦ λ e. (subst (λ (x : Text). Below x m) (sym (order-equal k j e)) (s .0), s .1)
     | Greater ↦ λ e. (below-insert j k v m (order-flip k j ∙ ap flip e) (s .0), insert-ascending k v m (s .1))
   ]) refl
+
+-- THE KEYS that a test picks, in their order: each above the one before, and no more than there are entries
+abbrev pub Rising : Option Text → List Text → Type 0
+Rising j [] = Unit {0}
+Rising none (k ∷ ks) = Rising (some k) ks
+Rising (some j) (k ∷ ks) = (orderOf j k ≡ Less) × Rising (some k) ks
+
+module _ {A : Type 0} (p : A → Bool) where
+  keys-above : (j : Text) (m : Map A) → Below j m → Ascending m → Rising (some j) (keys-where p m)
+  unfolding keys-where
+  keys-above j [] b s = tt
+  keys-above j ((k ⟼ v) ∷ m) b s = by-test (λ t. Rising (some j) (cond t (k ∷ keys-where p m) (keys-where p m))) (p v)
+      (λ _. (b, keys-above k m (s .0) (s .1))) (λ _. keys-above j m (below-trans j k m b (s .0)) (s .1))
+
+  pub keys-rising : (m : Map A) → Ascending m → Rising none (keys-where p m)
+  unfolding keys-where
+  keys-rising [] s = tt
+  keys-rising ((k ⟼ v) ∷ m) s = by-test (λ t. Rising none (cond t (k ∷ keys-where p m) (keys-where p m))) (p v)
+      (λ _. keys-above k m (s .0) (s .1)) (λ _. keys-rising m (s .1))
+
+  pub keys-few : (m : Map A) → length (keys-where p m) ≤ length m
+  unfolding keys-where
+  keys-few [] = omega arith
+  keys-few ((k ⟼ v) ∷ m) = by-test (λ t. length (cond t (k ∷ keys-where p m) (keys-where p m)) ≤ suc (length m)) (p v)
+      (λ _. omega (arith, keys-few m)) (λ _. omega (arith, keys-few m))
