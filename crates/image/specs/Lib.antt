@@ -11,3 +11,4 @@ pub mod Tables
 pub mod ImageParts
 pub mod Edges
 pub mod Limits
+pub mod Opened
