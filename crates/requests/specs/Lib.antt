@@ -1,0 +1,10 @@
+pub mod Cases
+pub mod Flags
+pub mod Request
+pub mod Outcome
+pub mod FlagLaws
+pub mod CaseLaws
+pub mod RequestLaws
+pub mod OutcomeLaws
+pub mod Faults
+pub mod Limits

@@ -1,0 +1,1 @@
+// Requests, tokens and outcomes as bytes. Their definitions and laws stand in specs.
