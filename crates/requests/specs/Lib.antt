@@ -8,3 +8,4 @@ pub mod RequestLaws
 pub mod OutcomeLaws
 pub mod Faults
 pub mod Limits
+pub mod Meaning
