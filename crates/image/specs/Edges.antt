@@ -19,6 +19,9 @@ default-measured = (length (encodeImage default), contents widths bodies (first 
 abbrev empty-at-157 : ℕ × (ℕ × ℕ)
 empty-at-157 = (157, (0, 0))
 
-pub E1 : default-measured ≡ (157, ((67, (90, 1)), (empty-at-157, (empty-at-157, (empty-at-157, (empty-at-157, (empty-at-157, (empty-at-157, tt))))))))
+abbrev pub default-is : Measured
+default-is = (157, ((67, (90, 1)), (empty-at-157, (empty-at-157, (empty-at-157, (empty-at-157, (empty-at-157, (empty-at-157, tt))))))))
+
+pub E1 : default-measured ≡ default-is
 unfolding encodeImage encode enc digits all enc-option contents write writes count each
 E1 = refl

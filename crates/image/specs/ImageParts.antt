@@ -106,7 +106,7 @@ header-then s r =
 abbrev pub header-bytes : State → List ℕ
 header-bytes s = header-then s []
 
-length-each : {A B : Type 0} (f : A → B) (l : List A) → length (each f l) ≡ length l
+pub length-each : {A B : Type 0} (f : A → B) (l : List A) → length (each f l) ≡ length l
 unfolding each
 length-each f [] = refl
 length-each f (v ∷ l) = ap suc (length-each f l)
