@@ -42,3 +42,10 @@ pub fn step<'c, 'a>(codes: &'c [u8], r: Reader<'a>) -> Reader<'a>
         at: tables::skip_record(codes, r.image, r.at),
     }
 }
+
+// The record after the one at a place. Its parameters are plain, so a caller's proof has no walk by hand.
+pub fn record_after<'c, 'a>(codes: &'c [u8], s: &'a [u8], at: usize) -> &'a [u8]
+    ensures { λ r. ⌜ now r ≡ record-of (codesOf (now (codes .entry))) (skip 0 (codesOf (now (codes .entry))) (drop at (now (s .entry)))) ⌝ }
+{
+    current(codes, step(codes, open(s, at)))
+}
