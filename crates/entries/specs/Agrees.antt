@@ -5,13 +5,14 @@ use native.Mathlib.Omega.{arith}
 use mathlib.Core.Path.{_≡_, refl, ap, _∙_, subst}
 use mathlib.Core.Bool.{Bool, true, false, cond, not}
 use mathlib.Core.List.{List, []}
-use mathlib.Core.Option.{some}
+use mathlib.Core.Option.{Option, none, some}
 use lib.Dec.{leb}
 use lib.ListN.{length}
 use Rattle.parts.specs.Answer.{Answer, no, yes, statusOf, imageOf, longest, settle, settle-yes, writtenOf, laidOver}
 use Rattle.parts.specs.declared.Written.{Written}
 use Rattle.parts.specs.Over.{over, over-none}
 use Rattle.parts.specs.Digits.{Bytes}
+use Rattle.state.specs.Maps.{is-some}
 use Rattle.state.specs.Records.{State, default, SnapshotLeaseToken}
 use Rattle.machine.specs.Actions.{Outcome, Transition, rejected, accepted}
 use Rattle.machine.specs.Machine.{apply, validate}
@@ -27,7 +28,7 @@ use Rattle.requests.specs.Request.{Request, encodeRequest, encodeToken, WithinR
 use Rattle.requests.specs.Outcome.{encodeOutcome, decodeOutcome}
 use Rattle.requests.specs.RequestLaws.{request-back, request-written, token-back}
 use Rattle.requests.specs.OutcomeLaws.{outcome-back, outcome-bytes}
-use Rattle.entries.specs.Bytes.{settled, applyBytes, validateBytes, testBytes, defaultBytes}
+use Rattle.entries.specs.Bytes.{_>>=_, or-40, settled, status, applyBytes, validateBytes, testBytes, defaultBytes}
 use Rattle.entries.specs.Sized.{image-texts, formed-of}
 use Rattle.entries.specs.Kept.{apply-kept}
 use Rattle.entries.specs.Ways.{Took}
@@ -87,6 +88,15 @@ module _ (s : State) (f : Formed s) where
   pub test-agrees : testBytes (encodeImage s) ≡ 0
   unfolding testBytes
   test-agrees = rw (reads-back s f)
+
+-- 0 just for images
+pub test-is : (image : List ℕ) → testBytes image ≡ cond (is-some (decodeImage image)) 0 40
+unfolding testBytes
+test-is image = go (decodeImage image)
+  where
+    go : (o : Option State) → status (_>>=_ (or-40 o) (λ s. answer 0)) ≡ cond (is-some o) 0 40
+    go none = refl
+    go (some s) = refl
 
 -- ANY BYTES that are accepted: what a call wrote is read again
 pub took-again : (image request : List ℕ) (room outcome-room : ℕ) (x y : List ℕ) → Bytes image → Bytes request → (t : Took image request room outcome-room x y) → ReadAgain (t .call .next) (t .call .outcome) x y

@@ -7,21 +7,19 @@ use mathlib.Core.Option.{Option, none, some}
 use lib.Dec.{leb}
 use lib.ListN.{length}
 use borrow.Author.Tests.{leb-true}
-use Rattle.text.specs.Order.{orderOf}
-use Rattle.text.specs.declared.Order.{Order}
-use Rattle.text.specs.declared.Order.the-variants.{Less, Equal, Greater}
 use Rattle.parts.specs.Answer.{longest}
-use Rattle.state.specs.Maps.{Text, Map, Entry, _⟼_, key-of}
+use Rattle.state.specs.Maps.{Text, Map, Entry, _⟼_}
 use Rattle.state.specs.MapLaws.{Each}
 use Rattle.state.specs.Sorted.{Below, Ascending}
 use Rattle.state.specs.Records.{ObjectReference, PreparedPublication, State}
-use Rattle.fields.specs.Format.{is-less, after, itself, ascends, TextOk, Every, Rows, Within}
+use Rattle.fields.specs.Format.{after, itself, ascends, TextOk, Every, Rows, Within}
 use Rattle.fields.specs.Format.{Maybe as MaybeWithin}
 use Rattle.fields.specs.FormatLaws.{and-true}
 use Rattle.fields.specs.Codes.{set-most, key-limit}
 use Rattle.machine.specs.Formed.{Texts, Maybe, Table, ReferenceFits, IntentAt, Formed as WellFormed}
 use Rattle.image.specs.Body.{row, id, roomy}
 use Rattle.image.specs.Shapes.{short, reference, intent, prepared, permit, lease, job, each-option, reference-parts, prepared-parts, permit-parts, lease-parts, job-parts}
+use Rattle.image.specs.Stored.{OwnKey, ascending-of, each-of, own-keys}
 use Rattle.image.specs.Layout.{bodies, each, row-of, own-row, state-parts, encodeImage, Formed}
 
 -- THE TEXTS OF AN IMAGE: what `Formed` of the machine leaves open. With them what fits is what is within the formats, but for
@@ -38,18 +36,9 @@ prior-fits none h = tt
 prior-fits (some r) h = h
 
 -- ROWS AND TABLES
-is-Less : (o : Order) → is-less o ≡ true → o ≡ Less
-is-Less Less h = refl
-is-Less Equal h = cc
-is-Less Greater h = cc
-
 module _ {A B : Type 0} (at : Entry A → Text × B) (W : Text × B → Type 0) (P : Text → A → Type 0) where
-  -- an entry is written under its own key
-  abbrev Own : Entry A → Type 0
-  Own e = at e .0 ≡ key-of e
-
-  module _ (fits : (k : Text) (v : A) → P k v → Own (k ⟼ v) × W (at (k ⟼ v))) where
-    owns : (m : Map A) → Each P m → Every Own m
+  module _ (fits : (k : Text) (v : A) → P k v → OwnKey at (k ⟼ v) × W (at (k ⟼ v))) where
+    owns : (m : Map A) → Each P m → Every (OwnKey at) m
     owns [] h = tt
     owns ((k ⟼ v) ∷ m) h = (fits k v (h .0) .0, owns m (h .1))
 
@@ -71,26 +60,8 @@ module _ {A B : Type 0} (at : Entry A → Text × B) (W : Text × B → Type 0) 
     rows-of : (most : ℕ) (m : Map A) → leb (length (each at m)) most ≡ true → Table P m → Rows W id most (each at m)
     rows-of most m l t = record { count = leb-true _ _ l; each = within-each m (t .each); ascending = ascends-all m (t .each) (t .ascending) }
 
-  module _ (holds : (k : Text) (v : A) → Own (k ⟼ v) → W (at (k ⟼ v)) → P k v) where
-    each-of : (m : Map A) → Every Own m → Every W (each at m) → Each P m
-    unfolding each
-    each-of [] o h = tt
-    each-of ((k ⟼ v) ∷ m) o h = (holds k v (o .0) (h .0), each-of m (o .1) (h .1))
-
-    below-of : (m : Map A) (k : Text) → Every Own m → ascends id (some k) (each at m) ≡ true → Below k m × Ascending m
-    unfolding each ascends after
-    below-of [] k o a = (tt, tt)
-    below-of ((j ⟼ v) ∷ m) k o a =
-        let (a₀, a₁) = and-true (is-less (orderOf k (at (j ⟼ v) .0))) (ascends id (some (at (j ⟼ v) .0)) (each at m)) a in
-        (is-Less (orderOf k j) (rw (o .0) at a₀), below-of m j (o .1) (rw (o .0) at a₁))
-
-    ascending-of : (m : Map A) → Every Own m → ascends id none (each at m) ≡ true → Ascending m
-    unfolding each ascends after
-    ascending-of [] o a = tt
-    ascending-of ((j ⟼ v) ∷ m) o a = below-of m j (o .1) (rw (o .0) at a)
-
-    table-of : (most : ℕ) (m : Map A) → Every Own m → Rows W id most (each at m) → Table P m
-    table-of most m o r = record { ascending = ascending-of m o (r .ascending); each = each-of m o (r .each) }
+  table-of : ((k : Text) (v : A) → OwnKey at (k ⟼ v) → W (at (k ⟼ v)) → P k v) → (most : ℕ) (m : Map A) → Every (OwnKey at) m → Rows W id most (each at m) → Table P m
+  table-of holds most m o r = record { ascending = ascending-of at m o (r .ascending); each = each-of at W P holds m o (r .each) }
 
 -- each table of the state
 abbrev IntentOk : Text → PreparedPublication → Type 0
@@ -101,10 +72,6 @@ intent-within k v h = (refl, (h .0, (h .1 .0, (h .1 .1 .0, (h .1 .1 .1 .0, (h .1
 
 intent-fits : (k : Text) (v : PreparedPublication) → k ≡ k → Within (row short prepared) (row-of prepared-parts (k ⟼ v)) → IntentOk k v
 intent-fits k v o h = (h .0, (h .1 .0, (h .1 .1 .0, (h .1 .1 .1 .0, (h .1 .1 .1 .1 .0, prior-fits (v .intent .expected-prior-root) (h .1 .1 .1 .1 .1))))))
-
-own-keys : {A : Type 0} (m : Map A) → Every (λ e. key-of e ≡ key-of e) m
-own-keys [] = tt
-own-keys (e ∷ m) = (refl, own-keys m)
 
 -- A WELL-FORMED STATE WHOSE TABLES AND IMAGE ARE WITHIN THEIR LIMITS HAS AN IMAGE
 pub formed-of : (s : State) → WellFormed image-texts s → roomy bodies (state-parts s .1) ≡ true → length (encodeImage s) ≤ longest → Formed s

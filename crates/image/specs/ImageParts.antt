@@ -1,6 +1,5 @@
 -- An image as its parts: the header, the scalars, and the bytes of the six tables, each where the one before it ends.
--- A setter leaves every other field as it was by computation: `image-is` of a state with one table set is the image with
--- that table's bytes, its length and its count replaced, and the places after it moved.
+-- A setter leaves every other field as it was by computation, so `image-is` of a next state says what has changed.
 use Prim.Native.Nat.{ℕ, suc, _+_}
 use native.Mathlib.Omega.{arith}
 use mathlib.Core.Path.{_≡_, refl, sym, ap, _∙_}
@@ -9,7 +8,9 @@ use lib.ListN.{length, take, drop, length-append}
 use lib.Seq.{drop-append-seam, take-append-seam, drop-at, drop-drop}
 use Rattle.parts.specs.Digits.{digits}
 use Rattle.parts.specs.Gather.{run}
-use Rattle.state.specs.Records.{State}
+use Rattle.state.specs.Maps.{Map}
+use Rattle.state.specs.Records.{ObjectReference, PreparedPublication, SnapshotLeaseToken, CollectionJobToken, DeletePermit, State}
+use Rattle.state.specs.Setters.{set-intents, set-roots, set-pins, set-deletion-reservations, set-leases, set-collection-jobs}
 use Rattle.fields.specs.Format.{Field, number, _▹_, El, enc, enc-option, enc-text, all}
 use Rattle.image.specs.Shapes.{short, reference, prepared, lease, job, permit, reference-parts, prepared-parts, lease-parts, job-parts, permit-parts}
 use Rattle.image.specs.Body.{Body, row, write, writes, count}
@@ -247,3 +248,26 @@ module _ (s : State) where
       ap length (image-split s)
       ∙ lengths (header-bytes s) (scalars-bytes s) (intents-bytes s) (roots-bytes s) (pins-bytes s) (reservations-bytes s) (leases-bytes s) (jobs-bytes s)
       ∙ ap (λ (n : ℕ). n + length (scalars-bytes s) + length (intents-bytes s) + length (roots-bytes s) + length (pins-bytes s) + length (reservations-bytes s) + length (leases-bytes s) + length (jobs-bytes s)) (length-header-bytes s)
+
+-- ONE TABLE SET: its bytes replaced, and the header by that of the new state
+module _ (s : State) where
+  pub set-intents-is : (m : Map PreparedPublication) → encodeImage (set-intents m s) ≡ header-then (set-intents m s) (scalars-bytes s ++ (all intent-row m ++ from-roots s))
+  set-intents-is m = image-is (set-intents m s)
+
+  pub set-roots-is : (m : Map ObjectReference) → encodeImage (set-roots m s) ≡ header-then (set-roots m s) (scalars-bytes s ++ (intents-bytes s ++ (all reference-row m ++ from-pins s)))
+  set-roots-is m = image-is (set-roots m s)
+
+  pub set-pins-is : (m : Map ObjectReference) → encodeImage (set-pins m s) ≡ header-then (set-pins m s) (scalars-bytes s ++ (intents-bytes s ++ (roots-bytes s ++ (all reference-row m ++ from-reservations s))))
+  set-pins-is m = image-is (set-pins m s)
+
+  pub set-reservations-is : (m : Map DeletePermit)
+      → encodeImage (set-deletion-reservations m s) ≡ header-then (set-deletion-reservations m s) (scalars-bytes s ++ (intents-bytes s ++ (roots-bytes s ++ (pins-bytes s ++ (all permit-row m ++ from-leases s)))))
+  set-reservations-is m = image-is (set-deletion-reservations m s)
+
+  pub set-leases-is : (m : Map SnapshotLeaseToken)
+      → encodeImage (set-leases m s) ≡ header-then (set-leases m s) (scalars-bytes s ++ (intents-bytes s ++ (roots-bytes s ++ (pins-bytes s ++ (reservations-bytes s ++ (all lease-row m ++ from-jobs s))))))
+  set-leases-is m = image-is (set-leases m s)
+
+  pub set-jobs-is : (m : Map CollectionJobToken)
+      → encodeImage (set-collection-jobs m s) ≡ header-then (set-collection-jobs m s) (scalars-bytes s ++ (intents-bytes s ++ (roots-bytes s ++ (pins-bytes s ++ (reservations-bytes s ++ (leases-bytes s ++ all job-row m))))))
+  set-jobs-is m = image-is (set-collection-jobs m s)

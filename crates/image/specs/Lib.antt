@@ -12,3 +12,4 @@ pub mod ImageParts
 pub mod Edges
 pub mod Limits
 pub mod Opened
+pub mod Stored
