@@ -13,3 +13,7 @@ pub mod Edges
 pub mod Limits
 pub mod Opened
 pub mod Stored
+pub mod Placed
+pub mod PlacedLaws
+pub mod CodeLists
+pub mod Default

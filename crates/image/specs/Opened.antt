@@ -1,13 +1,10 @@
 -- What opening an image answers: a function of the state that it holds, since each state has one image.
 use Prim.Native.Nat.{ℕ, _-_}
-use mathlib.Core.List.{List}
 use mathlib.Core.Option.{Option, none, some}
 use lib.ListN.{length}
 use Rattle.state.specs.Maps.{Text}
 use Rattle.state.specs.Records.{State}
 use Rattle.image.specs.ImageParts.{intents-bytes, roots-bytes, pins-bytes, reservations-bytes, leases-bytes, jobs-bytes, intents-at, roots-at, pins-at, reservations-at, leases-at, jobs-at}
-use Rattle.image.specs.declared.Table.{Table}
-use Rattle.image.specs.declared.TextAt.{TextAt}
 use Rattle.image.specs.declared.MaybeNumber.{MaybeNumber}
 use Rattle.image.specs.declared.MaybeNumber.the-variants.{NoNumber, Number}
 use Rattle.image.specs.declared.MaybeText.{MaybeText}
@@ -58,3 +55,8 @@ contentsOf s = record {
 abbrev pub openedOf : Option State → Opened
 openedOf none = NotAnImage
 openedOf (some s) = Image (contentsOf s)
+
+-- what testing an image answers
+abbrev pub testOf : Option State → ℕ
+testOf none = 40
+testOf (some s) = 0

@@ -1,32 +1,29 @@
 -- An image is tested by walks alone, with no value made: they accept just the images that `decodeImage` reads.
-use Prim.Native.Nat.{ℕ, zero, suc, _+_, _-_}
+use Prim.Native.Nat.{ℕ, zero, _+_, _-_}
 use native.Mathlib.Omega.{arith}
 use mathlib.Core.Path.{_≡_, refl, sym, ap, _∙_}
 use mathlib.Core.Bool.{Bool, true, false, cond, _&&_}
 use mathlib.Core.List.{List, [], _∷_}
-use mathlib.Core.Option.{Option, none, some}
+use mathlib.Core.Option.{none}
 use lib.Dec.{leb, eqb}
 use lib.ListN.{length, length-append}
-use Rattle.state.specs.Maps.{Text, is-some}
+use Rattle.state.specs.Maps.{is-some}
 use Rattle.parts.specs.Answer.{longest}
 use Rattle.parts.specs.Digits.{Bytes}
 use Rattle.parts.specs.DigitLaws.{bytes-right}
-use Rattle.fields.specs.Format.{Malformed, OverLimit, Res, ok, bad, bind, check, read-text, after, rows, Field, El, dec, enc}
+use Rattle.fields.specs.Format.{Malformed, OverLimit, Res, ok, bad, bind, check, El, dec, enc}
 use Rattle.fields.specs.FormatLaws.{enc-dec}
-use Rattle.fields.specs.Codes.{Code, codes, walk, forget, walk-codes, bind-bind, bind-same}
-use Rattle.image.specs.Body.{Body, one, table, row, id, write, read, Helds}
+use Rattle.fields.specs.Codes.{codes, walk, forget, walk-codes, bind-same}
+use Rattle.fields.specs.Rows.{walk-rows, walk-rows-is}
+use Rattle.image.specs.Body.{Body, one, table, row, write, read, Helds}
 use Rattle.image.specs.Contents.{Widths, entries, header, first, reads, decode, whole}
 use Rattle.image.specs.BodyLaws.{BodyOk, body-ok}
 use Rattle.image.specs.Layout.{bodies, widths, held, decodeImage}
 
 -- THE WALKS
-unfoldable pub walk-rows : ℕ → List Code → ℕ → Option Text → List ℕ → Res (Unit {0})
-walk-rows n cs zero p s = ok tt s
-walk-rows n cs (suc k) p s = bind (read-text n s) (λ t r. bind (walk zero cs r) (λ _ r. check (after p t) Malformed (walk-rows n cs k (some t) r)))
-
 unfoldable pub walk-body : Body → ℕ → List ℕ → Res (Unit {0})
 walk-body (one a f) k s = check (eqb k a) Malformed (walk zero (codes f) s)
-walk-body (table m n f) k s = check (leb k m) OverLimit (walk-rows n (codes f) k none s)
+walk-body (table m n f) k s = check (leb k m) OverLimit (walk-rows (codes (row n f)) k none s)
 
 module _ (w : Widths) where
   unfoldable pub walk-bodies : (bs : List Body) → ℕ → El (entries w bs) → List ℕ → Res (Unit {0})
@@ -50,25 +47,10 @@ bind-forget : {A B : Type 0} (m : Res A) (k : List ℕ → Res B) → bind (forg
 bind-forget (ok v r) k = refl
 bind-forget (bad e) k = refl
 
-forget-one : {A : Type 0} (m : Res (List A)) (v : A) → forget (bind m (λ vs r. ok (v ∷ vs) r)) ≡ forget m
-forget-one (ok vs r) v = refl
-forget-one (bad e) v = refl
-
-pub rows-forget : (n : ℕ) (f : Field) (k : ℕ) (p : Option Text) (s : List ℕ) → walk-rows n (codes f) k p s ≡ forget (rows (dec (row n f)) id k p s)
-unfolding walk-rows rows dec
-rows-forget n f zero p s = refl
-rows-forget n f (suc k) p s =
-    bind-same (read-text n s) _ _ (λ t r _.
-    ap (λ (m : Res (Unit {0})). bind m (λ _ r. check (after p t) Malformed (walk-rows n (codes f) k (some t) r))) (walk-codes f r)
-    ∙ bind-forget (dec f r) (λ r. check (after p t) Malformed (walk-rows n (codes f) k (some t) r))
-    ∙ bind-same (dec f r) _ _ (λ v r _. ap (check (after p t) Malformed) (rows-forget n f k (some t) r ∙ sym (forget-one (rows (dec (row n f)) id k (some t) r) (t, v))) ∙ sym (forget-check (after p t) Malformed _))
-    ∙ sym (forget-bind (dec f r) _) ∙ ap forget (sym (bind-bind (dec f r) _ _)))
-    ∙ sym (forget-bind (read-text n s) _) ∙ ap forget (sym (bind-bind (read-text n s) _ _))
-
 pub body-forget : (b : Body) (k : ℕ) (s : List ℕ) → walk-body b k s ≡ forget (read b k s)
 unfolding walk-body read
 body-forget (one a f) k s = ap (check (eqb k a) Malformed) (walk-codes f s) ∙ sym (forget-check (eqb k a) Malformed (dec f s))
-body-forget (table m n f) k s = ap (check (leb k m) OverLimit) (rows-forget n f k none s) ∙ sym (forget-check (leb k m) OverLimit _)
+body-forget (table m n f) k s = ap (check (leb k m) OverLimit) (walk-rows-is n f k none s) ∙ sym (forget-check (leb k m) OverLimit _)
 
 forget-pair : {A B : Type 0} (m : Res B) (v : A) → forget {A = A × B} (bind m (λ vs r. ok (v, vs) r)) ≡ forget m
 forget-pair (ok vs r) v = refl

@@ -1,0 +1,2 @@
+pub mod WalkSteps
+pub mod Steps
