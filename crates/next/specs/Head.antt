@@ -7,6 +7,7 @@ use lib.Dec.{ltb}
 use Rattle.image.specs.Layout.{most-intents, most-roots, most-pins, most-reservations, most-leases, most-jobs}
 use Rattle.image.specs.declared.MaybeNumber.{MaybeNumber}
 use Rattle.image.specs.declared.MaybeText.{MaybeText}
+use Rattle.image.specs.declared.Scalars.{Scalars}
 use Rattle.image.specs.declared.Contents.{Contents}
 
 abbrev pub windowFlag : MaybeNumber → ℕ
@@ -102,3 +103,7 @@ Small c =
 pub window-narrow : (w : MaybeNumber) → windowWidth w ≤ 8
 window-narrow MaybeNumber.NoNumber = omega arith
 window-narrow (MaybeNumber.Number n) = omega arith
+
+-- the same tables with other scalars
+abbrev pub withScalars : Contents → Scalars → Contents
+withScalars c n = record { «format_version» = c .«format_version»; scalars = n; intents = c .intents; roots = c .roots; pins = c .pins; reservations = c .reservations; leases = c .leases; jobs = c .jobs }

@@ -3,20 +3,25 @@ use Prim.Native.Nat.{ℕ, _+_, _-_, _≤_}
 use native.Mathlib.Omega.{arith}
 use mathlib.Core.List.{List, [], _∷_, _++_, append-assoc, append-nil}
 use mathlib.Core.Option.{Option, none, some}
-use mathlib.Core.Path.{_≡_, refl, sym, ap, _∙_}
+use mathlib.Core.Path.{_≡_, refl, sym, ap, _∙_, subst}
 use lib.ListN.{length, take, drop, length-append, length-drop}
 use lib.Seq.{take-append-seam, drop-append-seam, drop-drop, take-all}
 use Rattle.parts.specs.Answer.{longest}
 use Rattle.parts.specs.Digits.{digits}
-use Rattle.parts.specs.Gather.{run, pieceOf}
+use Rattle.parts.specs.Gather.{run, pieceOf, gatherOf}
 use Rattle.state.specs.Maps.{Text}
 use Rattle.state.specs.Records.{State}
-use Rattle.fields.specs.Format.{enc-option, enc-text, TextOk, Maybe}
+use Rattle.fields.specs.Format.{enc, enc-option, enc-text, TextOk, Maybe}
 use Rattle.image.specs.Shapes.{short}
 use Rattle.image.specs.Layout.{encodeImage, Formed}
-use Rattle.image.specs.Opened.{scalarsOf, rootOf}
+use Rattle.image.specs.Opened.{scalarsOf, rootOf, contentsOf}
 use Rattle.image.specs.ImageParts.{scalars-bytes, scalars-is, intents-bytes, roots-bytes, pins-bytes, reservations-bytes, leases-bytes, jobs-bytes, scalars-at, intents-at, end-at, from-intents, at-scalars, at-intents, length-image}
-use Rattle.next.specs.Head.{rootFlag, rootStart, rootWidth}
+use Rattle.image.specs.declared.Scalars.{Scalars}
+use Rattle.image.specs.declared.Contents.{Contents}
+use Rattle.machine.specs.Actions.{Applied}
+use Rattle.requests.specs.Cases.{write-parts}
+use Rattle.requests.specs.Outcome.{encodeOutcome}
+use Rattle.next.specs.Head.{Small, withScalars, rootFlag, rootStart, rootWidth}
 use Rattle.next.specs.Shows.{rootBytes}
 
 -- ---- runs
@@ -154,3 +159,24 @@ small-here s f =
     let l = sym (length-image s) in
     let z = f .size in
     (root-narrow (intents-at s) (s .collection-root) (f .fits .0 .1 .1 .1 .1 .1 .1 .1 .1 .1 .1 .1), omega arith, omega arith, omega arith, omega arith, omega arith, omega arith)
+
+-- the tables of an image are small, whatever its scalars
+pub small-with : (s : State) → Formed s → (c : Contents) → c ≡ contentsOf s → (c′ : Contents) (n : Scalars) → c′ ≡ withScalars c n → n .«collection_root» ≡ c .scalars .«collection_root» → Small c′
+small-with s f c e c′ n q r = subst Small (sym q) (subst (λ (k : Contents). n .«collection_root» ≡ k .scalars .«collection_root» → Small (withScalars k n)) (sym e) base r)
+  where
+    base : n .«collection_root» ≡ scalarsOf s .«collection_root» → Small (withScalars (contentsOf s) n)
+    base r = let h = small-here s f in let z = ap rootWidth r in (omega (arith, h .0), omega (arith, h .1), omega (arith, h .2), omega (arith, h .3), omega (arith, h .4), omega (arith, h .5), omega (arith, h .6))
+
+-- ---- all tables as they were: one run
+
+pub whole-tables : (s : State) (x q : List ℕ) → encodeImage s ≡ x → (c : Contents) → c ≡ contentsOf s → gatherOf x q (0 ∷ c .intents .at ∷ length x ∷ []) ≡ from-intents s
+whole-tables s x q i c e =
+    ap (λ (c : Contents). gatherOf x q (0 ∷ c .intents .at ∷ length x ∷ [])) e
+    ∙ append-nil (run x (intents-at s) (length x))
+    ∙ run-rest x (from-intents s) (intents-at s) (length x) (tables-here s x i) (omega arith)
+
+-- ---- an outcome that says no more than that it was applied
+
+pub applied-told : (x q : List ℕ) → gatherOf x q (2 ∷ 0 ∷ 1 ∷ []) ≡ encodeOutcome Applied
+unfolding digits encodeOutcome write-parts enc
+applied-told x q = refl

@@ -4,3 +4,4 @@ pub mod Shows
 pub mod Call
 pub mod Kept
 pub mod Bounds
+pub mod Peeks

@@ -5,7 +5,7 @@ ghost use Prim.Native.Nat.{_+_, _-_, _≤_};
 ghost use lib.ListN.{length};
 ghost use Rattle.parts.specs.Answer.{settle, Gave};
 ghost use Rattle.parts.specs.Gather.{gatherOf};
-ghost use Rattle.next.specs.Head.{windowFlag, windowValue, windowWidth, rootFlag, rootStart, rootWidth, scalarsSize, headParts, overLimit, Small};
+ghost use Rattle.next.specs.Head.{windowFlag, windowValue, windowWidth, rootFlag, rootStart, rootWidth, scalarsSize, headParts, overLimit, Small, withScalars};
 use image::Contents;
 use image::MaybeNumber;
 use image::MaybeText;
@@ -243,4 +243,26 @@ pub fn emit(
     let h = head(source, c);
     let over = over_limit(c);
     parts::emit(over, image, request, &h, body, told, next, outcome)
+}
+
+// The same tables with other scalars.
+pub fn with_scalars(c: Contents, n: Scalars) -> Contents
+    ensures { λ r. ⌜ r ≡ withScalars c n ⌝ }
+{
+    let intents = c.intents;
+    let roots = c.roots;
+    let pins = c.pins;
+    let reservations = c.reservations;
+    let leases = c.leases;
+    let jobs = c.jobs;
+    Contents {
+        format_version: c.format_version,
+        scalars: n,
+        intents,
+        roots,
+        pins,
+        reservations,
+        leases,
+        jobs,
+    }
 }

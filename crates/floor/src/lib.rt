@@ -1,0 +1,118 @@
+// The read floor, and the actions that move it by numbers alone: frontier, window, range map.
+ghost use mathlib.Core.Path.{_≡_};
+ghost use Prim.Native.Nat.{_+_, _-_, _≤_, min, max};
+ghost use lib.ListN.{length, take, drop};
+ghost use Rattle.fields.specs.Codes.{codes};
+ghost use Rattle.image.specs.Shapes.{lease};
+ghost use Rattle.tables.specs.Seek.{rows-at};
+ghost use Rattle.floor.specs.Floors.{policyFor, readableFor, oldestAt};
+ghost use Rattle.parts.specs.Answer.{Gave};
+ghost use Rattle.entries.specs.Bytes.{applyBytes};
+ghost use Rattle.requests.specs.declared.PublicationAction.{PublicationAction};
+ghost use Rattle.next.specs.Call.{Ready};
+use image::Contents;
+use image::MaybeNumber;
+use image::Scalars;
+use parts::Applied;
+use requests::AuthorityContext;
+use requests::PublicationAuthorityFaults;
+
+fn smaller(a: u64, b: u64) -> u64
+    ensures { λ r. ⌜ r ≡ min a b ⌝ }
+{
+    if a < b { a } else { b }
+}
+
+fn larger(a: u64, b: u64) -> u64
+    ensures { λ r. ⌜ r ≡ max a b ⌝ }
+{
+    if a < b { b } else { a }
+}
+
+// saturating_sub
+fn minus(a: u64, b: u64) -> u64
+    ensures { λ r. ⌜ r ≡ a - b ⌝ }
+{
+    if a < b { 0 } else { a - b }
+}
+
+pub fn policy_for(w: MaybeNumber, frontier: u64, old: u64) -> u64
+    ensures { λ r. ⌜ r ≡ policyFor w frontier old ⌝ }
+{
+    match w {
+        MaybeNumber::NoNumber => old,
+        MaybeNumber::Number(window) => larger(old, minus(frontier, window)),
+    }
+}
+
+pub fn readable_for(w: MaybeNumber, candidate: u64, old: u64) -> u64
+    ensures { λ r. ⌜ r ≡ readableFor w candidate old ⌝ }
+{
+    match w {
+        MaybeNumber::NoNumber => old,
+        MaybeNumber::Number(_) => larger(old, candidate),
+    }
+}
+
+// The smallest of floor and the versions of n leases that stand at a place.
+pub fn oldest(s: &[u8], at: usize, n: usize, floor: u64) -> u64
+    ensures { λ r. ⌜ r ≡ oldestAt floor (rows-at (codes lease) n (drop at (now (s .entry)))) ⌝ }
+{
+    let before = [64u8, 64];
+    let mut i = 0;
+    let mut p = fields::within(s, at);
+    let mut m = floor;
+    while i < n {
+        m = smaller(parts::u64_at(s, tables::skip_record(&before, s, p)), m);
+        p = tables::skip_record(&image::LEASE, s, p);
+        i += 1;
+    }
+    m
+}
+
+pub fn observe_committed_frontier(
+    image: &[u8],
+    c: Contents,
+    request: &[u8],
+    x: AuthorityContext,
+    f: PublicationAuthorityFaults,
+    committed_frontier: u64,
+    next: &mut [u8],
+    outcome: &mut [u8],
+) -> Applied
+    requires { ⌜ Ready (now image) c (now request) (record { context = x; faults = f; action = PublicationAction.ObserveCommittedFrontier «committed_frontier» }) ⌝ }
+    ensures { λ r. ⌜ Gave (applyBytes (now (image .entry)) (now (request .entry)) (length (now (next .entry))) (length (now (outcome .entry)))) (now (next .entry)) (now (outcome .entry)) r (now (next .exit)) (now (outcome .exit)) ⌝ }
+{
+    let n = c.scalars;
+    if committed_frontier == 0 {
+        return parts::refuse(2);
+    }
+    if committed_frontier < n.observed_commit_frontier {
+        return parts::refuse(16);
+    }
+    let w = n.retention_window;
+    let root = n.collection_root;
+    let leases = c.leases;
+    let policy = policy_for(w, committed_frontier, n.policy_floor);
+    let candidate = oldest(image, leases.at, leases.count, policy);
+    let readable = readable_for(w, candidate, n.minimum_readable_version);
+    let m = Scalars {
+        term: x.position.term,
+        index: x.position.index,
+        root_intent_epoch: n.root_intent_epoch,
+        observed_commit_frontier: committed_frontier,
+        retention_window: w,
+        retention_policy_epoch: n.retention_policy_epoch,
+        policy_floor: policy,
+        minimum_readable_version: readable,
+        physically_collected_through: n.physically_collected_through,
+        lease_clock_tick: n.lease_clock_tick,
+        lease_epoch: n.lease_epoch,
+        range_map_epoch: n.range_map_epoch,
+        collection_root: root,
+    };
+    let c2 = next::with_scalars(c, m);
+    let body = [0, c.intents.at, image.len()];
+    let told = [2, 0, 1];
+    next::emit(0, c2, image, request, &body, &told, next, outcome)
+}
