@@ -5,3 +5,5 @@ pub mod Call
 pub mod Kept
 pub mod Bounds
 pub mod Peeks
+pub mod Asked
+pub mod Edit

@@ -3,6 +3,8 @@ ghost use mathlib.Core.Path.{_≡_};
 ghost use mathlib.Core.List.{_++_};
 ghost use Prim.Native.Nat.{_+_, _-_, _≤_};
 ghost use lib.ListN.{length};
+ghost use mathlib.Core.Bool.{cond};
+ghost use Rattle.machine.specs.Next.{up};
 ghost use Rattle.parts.specs.Answer.{settle, Gave};
 ghost use Rattle.parts.specs.Gather.{gatherOf};
 ghost use Rattle.next.specs.Head.{windowFlag, windowValue, windowWidth, rootFlag, rootStart, rootWidth, scalarsSize, headParts, overLimit, Small, withScalars};
@@ -265,4 +267,21 @@ pub fn with_scalars(c: Contents, n: Scalars) -> Contents
         leases,
         jobs,
     }
+}
+
+// saturating_add(1)
+pub fn up(n: u64) -> u64
+    ensures { λ r. ⌜ r ≡ up n ⌝ }
+{
+    if n == 18446744073709551615 { n } else { n + 1 }
+}
+
+// The root intent epoch after a change of leases: a fault flag leaves it.
+pub fn up_unless(omit: bool, n: u64) -> u64
+    ensures { λ r. ⌜ r ≡ cond omit n (up n) ⌝ }
+{
+    if omit {
+        return n;
+    }
+    up(n)
 }

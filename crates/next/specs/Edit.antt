@@ -1,0 +1,183 @@
+-- A change by id of one table of the image: what stands at the place, the runs around it, and the table's size and count after it.
+use Prim.Native.Nat.{ℕ, suc, _+_, _-_, _≤_, _<_}
+use native.Mathlib.Omega.{arith}
+use mathlib.Core.List.{List, [], _∷_, _++_, append-assoc}
+use mathlib.Core.Option.{none, some}
+use mathlib.Core.Path.{_≡_, refl, sym, ap, _∙_}
+use lib.ListN.{length, drop, length-append, length-drop}
+use Rattle.text.specs.Order.{orderOf}
+use Rattle.text.specs.OrderLaws.{order-equal}
+use Rattle.text.specs.declared.Order.the-variants.{Less, Equal, Greater}
+use Rattle.parts.specs.Gather.{run}
+use Rattle.state.specs.Maps.{Text, Map, Entry, _⟼_, key-of, Every, lookup, insert, remove, side}
+use Rattle.state.specs.Sorted.{Ascending}
+use Rattle.state.specs.Places.{ahead, at, behind, split-is, insert-is, remove-is, first-value, lookup-is}
+use Rattle.fields.specs.Format.{all}
+use Rattle.fields.specs.Codes.{Code, codes, codeOf, codesOf}
+use Rattle.tables.specs.Seek.{seek, placed}
+use Rattle.tables.specs.SeekLaws.{Hopped}
+use Rattle.tables.specs.declared.Place.{Place}
+use Rattle.image.specs.Body.{row}
+use Rattle.image.specs.Shapes.{short, reference, prepared, permit, lease, job}
+use Rattle.image.specs.Tables.{bytes-split, bytes-insert, bytes-remove}
+use Rattle.image.specs.Stored.{find-place}
+use Rattle.next.specs.Kept.{run-rest, run-to, after-seam}
+
+-- ---- the code lists of the tables
+
+pub intent-codes : codesOf (64 ∷ 8 ∷ 10 ∷ 9 ∷ 128 ∷ 8 ∷ 64 ∷ 64 ∷ 15 ∷ 9 ∷ 128 ∷ 8 ∷ 64 ∷ []) ≡ codes (row short prepared)
+unfolding codesOf codeOf codes
+intent-codes = refl
+
+pub reference-codes : codesOf (64 ∷ 9 ∷ 128 ∷ 8 ∷ 64 ∷ []) ≡ codes (row short reference)
+unfolding codesOf codeOf codes
+reference-codes = refl
+
+pub permit-codes : codesOf (128 ∷ 12 ∷ 64 ∷ 12 ∷ 64 ∷ 8 ∷ 64 ∷ 64 ∷ 8 ∷ 8 ∷ 8 ∷ []) ≡ codes permit
+unfolding codesOf codeOf codes
+permit-codes = refl
+
+pub lease-codes : codesOf (64 ∷ 64 ∷ 8 ∷ 8 ∷ 64 ∷ 64 ∷ 8 ∷ 9 ∷ 128 ∷ 8 ∷ 64 ∷ 10 ∷ 8 ∷ 8 ∷ 8 ∷ []) ≡ codes lease
+unfolding codesOf codeOf codes
+lease-codes = refl
+
+pub job-codes : codesOf (64 ∷ 8 ∷ 8 ∷ 8 ∷ 8 ∷ 9 ∷ 128 ∷ 8 ∷ 64 ∷ 64 ∷ 8 ∷ 8 ∷ 128 ∷ []) ≡ codes job
+unfolding codesOf codeOf codes
+job-codes = refl
+
+-- ---- what stands under a key
+
+pub data Standing {A : Type 0} (k : Text) (m : Map A) : Type 0 where
+  absent : at k m ≡ [] → lookup k m ≡ none → Standing k m
+  present : (v : A) → at k m ≡ (k ⟼ v) ∷ [] → lookup k m ≡ some v → Standing k m
+
+data Here {A : Type 0} (k : Text) (l : Map A) : Type 0 where
+  nothing : l ≡ [] → Here k l
+  one : (v : A) → l ≡ (k ⟼ v) ∷ [] → Here k l
+
+module _ {A : Type 0} (k : Text) where
+  here : (m : Map A) → Here k (at k m)
+  unfolding at
+  here [] = nothing refl
+  here ((j ⟼ w) ∷ m) = (elim (orderOf k j) as (λ o. orderOf k j ≡ o → Here k (side o [] ((j ⟼ w) ∷ []) (at k m))) [
+    | Less ↦ λ e. nothing refl
+    | Equal ↦ λ e. one w (ap (λ (i : Text). (i ⟼ w) ∷ []) (sym (order-equal k j e)))
+    | Greater ↦ λ e. here m
+  ]) refl
+
+  pub standing : (m : Map A) → Ascending m → Standing k m
+  standing m a = go (here m)
+    where
+      go : Here k (at k m) → Standing k m
+      go (nothing e) = absent e (lookup-is k m a ∙ ap (first-value k) e)
+      go (one v e) = present v e (lookup-is k m a ∙ ap (first-value k) e)
+
+-- ---- counts
+
+module _ {A : Type 0} (k : Text) (m : Map A) where
+  split-count : length m ≡ length (ahead k m) + (length (at k m) + length (behind k m))
+  split-count = ap length (split-is k m) ∙ length-append (ahead k m) (at k m ++ behind k m) ∙ ap (λ (n : ℕ). length (ahead k m) + n) (length-append (at k m) (behind k m))
+
+  insert-length : (v : A) → length (insert k v m) ≡ length (ahead k m) + suc (length (behind k m))
+  insert-length v = ap length (insert-is k v m) ∙ length-append (ahead k m) ((k ⟼ v) ∷ behind k m)
+
+  pub insert-new : (v : A) → at k m ≡ [] → length (insert k v m) ≡ length m + 1
+  insert-new v e = let l = ap length e in omega (arith, split-count, insert-length v)
+
+  pub insert-over : (v w : A) → at k m ≡ (k ⟼ w) ∷ [] → length (insert k v m) ≡ length m
+  insert-over v w e = let l = ap length e in omega (arith, split-count, insert-length v)
+
+  pub remove-count : (w : A) → Ascending m → at k m ≡ (k ⟼ w) ∷ [] → length (remove k m) ≡ length m - 1
+  remove-count w a e =
+      let l = ap length e in
+      let r : length (remove k m) ≡ length (ahead k m) + length (behind k m) = ap length (remove-is k m a) ∙ length-append (ahead k m) (behind k m) in
+      omega (arith, split-count)
+
+-- ---- the place of a key in a table that stands at p, after the bytes b that stand at i
+
+module _ {A : Type 0} (cs : List Code) (write : Entry A → List ℕ) (x : List ℕ) (i p : ℕ) (b : List ℕ) (m : Map A) (r : List ℕ)
+    (here : drop i x ≡ b ++ (all write m ++ r)) (starts : p ≡ i + length b) (low : i ≤ length x)
+    (hops : Every (Hopped cs write key-of) m) (k : Text) (place : Place) (found : place ≡ placed x (seek cs (length m) k (drop p x)))
+  where
+    abbrev before-it : List ℕ
+    before-it = all write (ahead k m)
+
+    abbrev at-it : List ℕ
+    at-it = all write (at k m)
+
+    abbrev after-it : List ℕ
+    after-it = all write (behind k m)
+
+    pub fits : p ≤ length x
+    fits = let l = sym (length-drop i x) ∙ ap length here ∙ length-append b (all write m ++ r) in omega arith
+
+    table-here : drop p x ≡ all write m ++ r
+    table-here = after-seam x b (all write m ++ r) i p here starts
+
+    place-is : place ≡ record { start = p + length before-it; end = p + length before-it + length at-it }
+    place-is = found ∙ find-place cs write x p m r table-here hops k fits
+
+    pub start-is : place .start ≡ p + length before-it
+    start-is = ap (λ (y : Place). y .start) place-is
+
+    pub end-is : place .end ≡ p + length before-it + length at-it
+    end-is = ap (λ (y : Place). y .end) place-is
+
+    split-here : drop i x ≡ (b ++ before-it) ++ (at-it ++ (after-it ++ r))
+    split-here =
+        here ∙ ap (λ (l : List ℕ). b ++ (l ++ r)) (bytes-split write k m)
+        ∙ ap (λ (l : List ℕ). b ++ l) (append-assoc before-it (at-it ++ after-it) r ∙ ap (λ (l : List ℕ). before-it ++ l) (append-assoc at-it after-it r))
+        ∙ sym (append-assoc b before-it (at-it ++ (after-it ++ r)))
+
+    -- what stands at the place, and from there on
+    pub from-place : drop (place .start) x ≡ at-it ++ (after-it ++ r)
+    from-place = after-seam x (b ++ before-it) (at-it ++ (after-it ++ r)) i (place .start) split-here (let l = length-append b before-it in omega (arith, start-is))
+
+    pub past-place : drop (place .end) x ≡ after-it ++ r
+    past-place = after-seam x at-it (after-it ++ r) (place .start) (place .end) from-place (omega (arith, start-is, end-is))
+
+    -- THE RUNS AROUND IT
+    pub run-ahead : run x i (place .start - i) ≡ b ++ before-it
+    run-ahead = run-to x (b ++ before-it) (at-it ++ (after-it ++ r)) i (place .start - i) split-here (let l = length-append b before-it in omega (arith, start-is))
+
+    pub run-behind : run x (place .end) (length x) ≡ after-it ++ r
+    run-behind = run-rest x (after-it ++ r) (place .end) (length x) past-place (omega arith)
+
+    -- the row itself
+    pub run-row : run x (place .start) (place .end - place .start) ≡ at-it
+    run-row = run-to x at-it (after-it ++ r) (place .start) (place .end - place .start) from-place (omega (arith, start-is, end-is))
+
+    -- THE TABLE'S SIZE AFTER AN INSERT OR A REMOVE
+    size-split : length (all write m) ≡ length before-it + (length at-it + length after-it)
+    size-split = ap length (bytes-split write k m) ∙ length-append before-it (at-it ++ after-it) ∙ ap (λ (n : ℕ). length before-it + n) (length-append at-it after-it)
+
+    pub insert-size : (v : A) → length (all write (insert k v m)) ≡ length (all write m) - (place .end - place .start) + length (write (k ⟼ v))
+    insert-size v =
+        let l = ap length (bytes-insert write k v m) ∙ length-append before-it (write (k ⟼ v) ++ after-it) ∙ ap (λ (n : ℕ). length before-it + n) (length-append (write (k ⟼ v)) after-it) in
+        omega (arith, size-split, start-is, end-is)
+
+    pub remove-size : Ascending m → length (all write (remove k m)) ≡ length (all write m) - (place .end - place .start)
+    remove-size a =
+        let l = ap length (bytes-remove write k m a) ∙ length-append before-it after-it in
+        omega (arith, size-split, start-is, end-is)
+
+    -- WHETHER A ROW STANDS THERE: a row has a byte at least
+    module _ (long : (e : Entry A) → 1 ≤ length (write e)) (a : Ascending m) where
+      pub none-there : place .end ≤ place .start → (at k m ≡ []) × (lookup k m ≡ none)
+      unfolding all
+      none-there h = go (standing k m a)
+        where
+          go : Standing k m → (at k m ≡ []) × (lookup k m ≡ none)
+          go (absent e l) = (e, l)
+          go (present v e l) =
+              let n : length at-it ≡ length (write (k ⟼ v) ++ []) = ap (λ (l : Map A). length (all write l)) e in
+              let o = length-append (write (k ⟼ v)) [] in
+              absurd (omega (arith, long (k ⟼ v), start-is, end-is))
+
+      pub some-there : place .start < place .end → (v : A) × (at k m ≡ (k ⟼ v) ∷ []) × (lookup k m ≡ some v)
+      unfolding all
+      some-there h = go (standing k m a)
+        where
+          go : Standing k m → (v : A) × (at k m ≡ (k ⟼ v) ∷ []) × (lookup k m ≡ some v)
+          go (present v e l) = (v, e, l)
+          go (absent e l) = let n : length at-it ≡ 0 = ap (λ (l : Map A). length (all write l)) e in absurd (omega (arith, start-is, end-is))
