@@ -10,6 +10,7 @@ use Rattle.fields.specs.Walks.{placeOf, rest-place, rest-trans, rest-drop}
 use Rattle.image.specs.Shapes.{lease}
 use Rattle.tables.specs.Skips.{skip-rest}
 use Rattle.tables.specs.Seek.{rows-at}
+use Rattle.next.specs.Edit.{lease-codes}
 use Rattle.floor.specs.Floors.{before-version, oldestAt}
 
 oldest-in : (v m : ℕ) (rs : List (List ℕ)) → min v (oldestAt m rs) ≡ oldestAt (min v m) rs
@@ -24,10 +25,6 @@ after-record cs s p = rest-place (rest-trans (rest-drop p s) (skip-rest 0 cs (dr
 version-codes : codesOf (64 ∷ 64 ∷ []) ≡ before-version
 unfolding codesOf codeOf
 version-codes = refl
-
-pub lease-codes : codesOf (64 ∷ 64 ∷ 8 ∷ 8 ∷ 64 ∷ 64 ∷ 8 ∷ 9 ∷ 128 ∷ 8 ∷ 64 ∷ 10 ∷ 8 ∷ 8 ∷ 8 ∷ []) ≡ codes lease
-unfolding codesOf codeOf codes
-lease-codes = refl
 
 module _ (s : List ℕ) (p n i m : ℕ) where
   pub oldest-end : n ≤ i → oldestAt m (rows-at (codes lease) (n - i) (drop p s)) ≡ m

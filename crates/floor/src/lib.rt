@@ -16,6 +16,7 @@ use image::Scalars;
 use parts::Applied;
 use requests::AuthorityContext;
 use requests::PublicationAuthorityFaults;
+use requests::SetRetentionWindow;
 
 fn smaller(a: u64, b: u64) -> u64
     ensures { λ r. ⌜ r ≡ min a b ⌝ }
@@ -109,6 +110,94 @@ pub fn observe_committed_frontier(
         lease_clock_tick: n.lease_clock_tick,
         lease_epoch: n.lease_epoch,
         range_map_epoch: n.range_map_epoch,
+        collection_root: root,
+    };
+    let c2 = next::with_scalars(c, m);
+    let body = [0, c.intents.at, image.len()];
+    let told = [2, 0, 1];
+    next::emit(0, c2, image, request, &body, &told, next, outcome)
+}
+
+pub fn set_retention_window(
+    image: &[u8],
+    c: Contents,
+    request: &[u8],
+    x: AuthorityContext,
+    f: PublicationAuthorityFaults,
+    a: SetRetentionWindow,
+    next: &mut [u8],
+    outcome: &mut [u8],
+) -> Applied
+    requires { ⌜ Ready (now image) c (now request) (record { context = x; faults = f; action = PublicationAction.SetRetentionWindow a }) ⌝ }
+    ensures { λ r. ⌜ Gave (applyBytes (now (image .entry)) (now (request .entry)) (length (now (next .entry))) (length (now (outcome .entry)))) (now (next .entry)) (now (outcome .entry)) r (now (next .exit)) (now (outcome .exit)) ⌝ }
+{
+    let n = c.scalars;
+    if a.expected_policy_epoch != n.retention_policy_epoch {
+        return parts::refuse(17);
+    }
+    let w = MaybeNumber::Number(a.retention_window);
+    let root = n.collection_root;
+    let leases = c.leases;
+    let policy = policy_for(w, n.observed_commit_frontier, n.policy_floor);
+    let candidate = oldest(image, leases.at, leases.count, policy);
+    let readable = readable_for(w, candidate, n.minimum_readable_version);
+    let epoch = next::up(n.retention_policy_epoch);
+    let m = Scalars {
+        term: x.position.term,
+        index: x.position.index,
+        root_intent_epoch: n.root_intent_epoch,
+        observed_commit_frontier: n.observed_commit_frontier,
+        retention_window: w,
+        retention_policy_epoch: epoch,
+        policy_floor: policy,
+        minimum_readable_version: readable,
+        physically_collected_through: n.physically_collected_through,
+        lease_clock_tick: n.lease_clock_tick,
+        lease_epoch: n.lease_epoch,
+        range_map_epoch: n.range_map_epoch,
+        collection_root: root,
+    };
+    let c2 = next::with_scalars(c, m);
+    let body = [0, c.intents.at, image.len()];
+    let told = [2, 0, 1];
+    next::emit(0, c2, image, request, &body, &told, next, outcome)
+}
+
+pub fn observe_range_map_epoch(
+    image: &[u8],
+    c: Contents,
+    request: &[u8],
+    x: AuthorityContext,
+    f: PublicationAuthorityFaults,
+    range_map_epoch: u64,
+    next: &mut [u8],
+    outcome: &mut [u8],
+) -> Applied
+    requires { ⌜ Ready (now image) c (now request) (record { context = x; faults = f; action = PublicationAction.ObserveRangeMapEpoch «range_map_epoch» }) ⌝ }
+    ensures { λ r. ⌜ Gave (applyBytes (now (image .entry)) (now (request .entry)) (length (now (next .entry))) (length (now (outcome .entry)))) (now (next .entry)) (now (outcome .entry)) r (now (next .exit)) (now (outcome .exit)) ⌝ }
+{
+    let n = c.scalars;
+    if range_map_epoch == 0 {
+        return parts::refuse(2);
+    }
+    if range_map_epoch < n.range_map_epoch {
+        return parts::refuse(27);
+    }
+    let w = n.retention_window;
+    let root = n.collection_root;
+    let m = Scalars {
+        term: x.position.term,
+        index: x.position.index,
+        root_intent_epoch: n.root_intent_epoch,
+        observed_commit_frontier: n.observed_commit_frontier,
+        retention_window: w,
+        retention_policy_epoch: n.retention_policy_epoch,
+        policy_floor: n.policy_floor,
+        minimum_readable_version: n.minimum_readable_version,
+        physically_collected_through: n.physically_collected_through,
+        lease_clock_tick: n.lease_clock_tick,
+        lease_epoch: n.lease_epoch,
+        range_map_epoch: range_map_epoch,
         collection_root: root,
     };
     let c2 = next::with_scalars(c, m);
