@@ -9,3 +9,5 @@ pub mod OutcomeLaws
 pub mod Faults
 pub mod Limits
 pub mod Meaning
+pub mod Peek
+pub mod Checked

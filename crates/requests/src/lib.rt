@@ -1,7 +1,21 @@
 // Requests and tokens, read by place: an action's case holds numbers and where its texts stand in the request.
 ghost use mathlib.Core.Path.{_≡_};
-ghost use Rattle.requests.specs.Request.{decodeRequest, decodeToken};
-ghost use Rattle.requests.specs.Meaning.{parsedOf, tokenReadOf};
+ghost use Prim.Native.Nat.{_<_, _/_, _%_};
+ghost use lib.ListN.{take, drop};
+ghost use lib.Dec.{eqb};
+ghost use Rattle.parts.specs.Digits.{value};
+ghost use Rattle.fields.specs.Format.{kind, option};
+ghost use Rattle.fields.specs.Codes.{walk, skip, codesOf};
+ghost use Rattle.fields.specs.Rows.{text-here};
+ghost use Rattle.image.specs.Contents.{whole};
+ghost use Rattle.image.specs.Shapes.{u64, name, position, reference, identity, intent, closure, lease, job, permit, receipt, each-option, position-of, reference-of, identity-of, intent-of, closure-of, lease-of, job-of, permit-of, receipt-of};
+ghost use Rattle.requests.specs.Flags.{faults-of};
+ghost use Rattle.requests.specs.Request.{read-fields, decodeRequest, decodeToken};
+ghost use Rattle.requests.specs.Peek.{peek};
+ghost use Rattle.requests.specs.declared.PublicationAction.{PublicationAction};
+ghost use Rattle.requests.specs.Meaning.{actionOf, textOf, maybeTextOf, kindOf, positionOf, contextOf, faultsOf, referenceOf, maybeReferenceOf, identityOf, intentOf, closureOf, leaseTokenOf, jobTokenOf, receiptOf, permitOf, parsedOf, tokenReadOf};
+ghost use Rattle.requests.specs.Checked.{context, context-of, peek-action, checkedOf};
+use fields::Walk;
 use image::MaybeText;
 use image::TextAt;
 
@@ -221,4 +235,591 @@ pub enum Parsed {
 pub enum ParsedToken {
     Fault(u32),
     Token(SnapshotLeaseToken),
+}
+
+// The shapes of parts of a record and of the actions, a code for each field (see the codes of the crate fields).
+const NUMBER: [u8; 1] = [8];
+
+const KIND: [u8; 1] = [9];
+
+const NAME: [u8; 1] = [64];
+
+const KEY: [u8; 1] = [128];
+
+const KEYS: [u8; 1] = [10];
+
+const MAYBE_NAME: [u8; 2] = [12, 64];
+
+const POSITION: [u8; 2] = [8, 8];
+
+const REFERENCE: [u8; 4] = [9, 128, 8, 64];
+
+const MAYBE_REFERENCE: [u8; 5] = [15, 9, 128, 8, 64];
+
+const REVISION: [u8; 4] = [12, 64, 12, 64];
+
+const IDENTITY: [u8; 6] = [12, 64, 12, 64, 8, 64];
+
+const CLOSURE: [u8; 5] = [9, 128, 8, 64, 10];
+
+const RECEIPT: [u8; 18] = [
+    64,
+    8,
+    8,
+    8,
+    8,
+    9,
+    128,
+    8,
+    64,
+    64,
+    8,
+    8,
+    128,
+    9,
+    128,
+    8,
+    64,
+    10,
+];
+
+const SET_WINDOW: [u8; 2] = [8, 8];
+
+const CONFIGURE: [u8; 3] = [12, 64, 64];
+
+const ACQUIRE: [u8; 11] = [64, 64, 8, 64, 64, 8, 9, 128, 8, 64, 10];
+
+const RENEW: [u8; 3] = [64, 8, 8];
+
+const RELEASE: [u8; 2] = [64, 8];
+
+const ADVANCE_CLOCK: [u8; 2] = [8, 8];
+
+const COLLECT: [u8; 10] = [64, 8, 9, 128, 8, 64, 64, 8, 8, 128];
+
+const PREPARE: [u8; 12] = [64, 10, 9, 128, 8, 64, 64, 15, 9, 128, 8, 64];
+
+const PUBLISH: [u8; 11] = [64, 64, 15, 9, 128, 8, 64, 9, 128, 8, 64];
+
+const PIN: [u8; 10] = [64, 15, 9, 128, 8, 64, 9, 128, 8, 64];
+
+const UNPIN: [u8; 5] = [64, 9, 128, 8, 64];
+
+const RESERVE: [u8; 9] = [64, 8, 128, 12, 64, 12, 64, 8, 64];
+
+// Generation, term, index and fault flags.
+const HEAD: [u8; 4] = [8, 8, 8, 2];
+
+const FLAGS_AT: usize = 24;
+
+// One past the highest number of eleven flags.
+const FLAGS_END: u32 = 2048;
+
+// The action byte.
+const ACTION_AT: usize = 26;
+
+// Its fields.
+const FIELDS_AT: usize = 27;
+
+const MALFORMED: u32 = 41;
+
+// The outcome of a check: whole and nothing after, or the first fault.
+enum Checked {
+    Whole,
+    Fault(u32),
+}
+
+// Where the record of these codes ends that starts at a place.
+fn next(codes: &[u8], s: &[u8], at: usize) -> usize
+    ensures { λ r. ⌜ drop r (now (s .entry)) ≡ skip 0 (codesOf (now (codes .entry))) (drop at (now (s .entry))) ⌝ }
+{
+    tables::skip_record(codes, s, at)
+}
+
+// The readers below check nothing: they are called on bytes that were checked, and are total so that no caller has to show it.
+// In each, a local with the name of a field is the place where that field starts.
+fn text_place(s: &[u8], at: usize) -> TextAt
+    ensures { λ r. ⌜ textOf (now (s .entry)) r ≡ text-here (drop at (now (s .entry))) ⌝ }
+{
+    if s.len() <= at {
+        return TextAt { at, len: 0 };
+    }
+    TextAt {
+        at: at + 1,
+        len: s[at] as usize,
+    }
+}
+
+fn maybe_text_place(s: &[u8], at: usize) -> MaybeText
+    ensures { λ r. ⌜ maybeTextOf (now (s .entry)) r ≡ peek (option name) (drop at (now (s .entry))) ⌝ }
+{
+    if parts::byte_at(s, at) == 0 {
+        return MaybeText::NoText;
+    }
+    MaybeText::Text(text_place(s, at + 1))
+}
+
+fn kind_at(s: &[u8], at: usize) -> ObjectKind
+    ensures { λ r. ⌜ kindOf r ≡ peek kind (drop at (now (s .entry))) ⌝ }
+{
+    if parts::byte_at(s, at) == 0 {
+        return ObjectKind::Data;
+    }
+    ObjectKind::Manifest
+}
+
+fn position_at(s: &[u8], at: usize) -> AuthorityPosition
+    ensures { λ r. ⌜ positionOf r ≡ position-of (peek position (drop at (now (s .entry)))) ⌝ }
+{
+    let index = next(&NUMBER, s, at);
+    AuthorityPosition {
+        term: parts::u64_at(s, at),
+        index: parts::u64_at(s, index),
+    }
+}
+
+fn reference_at(s: &[u8], at: usize) -> ObjectReference
+    ensures { λ r. ⌜ referenceOf (now (s .entry)) r ≡ reference-of (peek reference (drop at (now (s .entry)))) ⌝ }
+{
+    let key = next(&KIND, s, at);
+    let length = next(&KEY, s, key);
+    let sha256 = next(&NUMBER, s, length);
+    ObjectReference {
+        kind: kind_at(s, at),
+        key: text_place(s, key),
+        length: parts::u64_at(s, length),
+        sha256: text_place(s, sha256),
+    }
+}
+
+fn maybe_reference_at(s: &[u8], at: usize) -> MaybeReference
+    ensures { λ r. ⌜ maybeReferenceOf (now (s .entry)) r ≡ each-option reference-of (peek (option reference) (drop at (now (s .entry)))) ⌝ }
+{
+    if parts::byte_at(s, at) == 0 {
+        return MaybeReference::NoReference;
+    }
+    MaybeReference::Reference(reference_at(s, at + 1))
+}
+
+fn identity_at(s: &[u8], at: usize) -> ObjectIdentity
+    ensures { λ r. ⌜ identityOf (now (s .entry)) r ≡ identity-of (peek identity (drop at (now (s .entry)))) ⌝ }
+{
+    let version = next(&MAYBE_NAME, s, at);
+    let length = next(&REVISION, s, at);
+    let sha256 = next(&NUMBER, s, length);
+    ObjectIdentity {
+        e_tag: maybe_text_place(s, at),
+        version: maybe_text_place(s, version),
+        length: parts::u64_at(s, length),
+        sha256: text_place(s, sha256),
+    }
+}
+
+fn intent_at(s: &[u8], at: usize) -> PublicationIntent
+    ensures { λ r. ⌜ intentOf (now (s .entry)) r ≡ intent-of (peek intent (drop at (now (s .entry)))) ⌝ }
+{
+    let manifest = next(&KEYS, s, at);
+    let destination_root = next(&REFERENCE, s, manifest);
+    let expected_prior_root = next(&NAME, s, destination_root);
+    PublicationIntent {
+        object_keys: Keys { at },
+        manifest: reference_at(s, manifest),
+        destination_root: text_place(s, destination_root),
+        expected_prior_root: maybe_reference_at(s, expected_prior_root),
+    }
+}
+
+fn closure_at(s: &[u8], at: usize) -> SnapshotClosure
+    ensures { λ r. ⌜ closureOf (now (s .entry)) r ≡ closure-of (peek closure (drop at (now (s .entry)))) ⌝ }
+{
+    let object_keys = next(&REFERENCE, s, at);
+    SnapshotClosure {
+        manifest: reference_at(s, at),
+        object_keys: Keys { at: object_keys },
+    }
+}
+
+fn lease_token_at(s: &[u8], at: usize) -> SnapshotLeaseToken
+    ensures { λ r. ⌜ leaseTokenOf (now (s .entry)) r ≡ lease-of (peek lease (drop at (now (s .entry)))) ⌝ }
+{
+    let tenant_id = next(&NAME, s, at);
+    let snapshot_version = next(&NAME, s, tenant_id);
+    let lease_epoch = next(&NUMBER, s, snapshot_version);
+    let owner = next(&NUMBER, s, lease_epoch);
+    let purpose = next(&NAME, s, owner);
+    let deadline_tick = next(&NAME, s, purpose);
+    let closure = next(&NUMBER, s, deadline_tick);
+    let owner_generation = next(&CLOSURE, s, closure);
+    let authority_position = next(&NUMBER, s, owner_generation);
+    SnapshotLeaseToken {
+        lease_id: text_place(s, at),
+        tenant_id: text_place(s, tenant_id),
+        snapshot_version: parts::u64_at(s, snapshot_version),
+        lease_epoch: parts::u64_at(s, lease_epoch),
+        owner: text_place(s, owner),
+        purpose: text_place(s, purpose),
+        deadline_tick: parts::u64_at(s, deadline_tick),
+        closure: closure_at(s, closure),
+        owner_generation: parts::u64_at(s, owner_generation),
+        authority_position: position_at(s, authority_position),
+    }
+}
+
+fn job_token_at(s: &[u8], at: usize) -> CollectionJobToken
+    ensures { λ r. ⌜ jobTokenOf (now (s .entry)) r ≡ job-of (peek job (drop at (now (s .entry)))) ⌝ }
+{
+    let owner_generation = next(&NAME, s, at);
+    let authority_position = next(&NUMBER, s, owner_generation);
+    let frozen_floor = next(&POSITION, s, authority_position);
+    let input_manifest = next(&NUMBER, s, frozen_floor);
+    let destination_root = next(&REFERENCE, s, input_manifest);
+    let range_map_epoch = next(&NAME, s, destination_root);
+    let expected_collected_through = next(&NUMBER, s, range_map_epoch);
+    let output_namespace = next(&NUMBER, s, expected_collected_through);
+    CollectionJobToken {
+        job_id: text_place(s, at),
+        owner_generation: parts::u64_at(s, owner_generation),
+        authority_position: position_at(s, authority_position),
+        frozen_floor: parts::u64_at(s, frozen_floor),
+        input_manifest: reference_at(s, input_manifest),
+        destination_root: text_place(s, destination_root),
+        range_map_epoch: parts::u64_at(s, range_map_epoch),
+        expected_collected_through: parts::u64_at(s, expected_collected_through),
+        output_namespace: text_place(s, output_namespace),
+    }
+}
+
+fn receipt_at(s: &[u8], at: usize) -> CollectionReceipt
+    ensures { λ r. ⌜ receiptOf (now (s .entry)) r ≡ receipt-of (peek receipt (drop at (now (s .entry)))) ⌝ }
+{
+    let output_manifest = next(&image::JOB, s, at);
+    let object_keys = next(&REFERENCE, s, output_manifest);
+    CollectionReceipt {
+        token: job_token_at(s, at),
+        output_manifest: reference_at(s, output_manifest),
+        object_keys: Keys { at: object_keys },
+    }
+}
+
+fn permit_at(s: &[u8], at: usize) -> DeletePermit
+    ensures { λ r. ⌜ permitOf (now (s .entry)) r ≡ permit-of (peek permit (drop at (now (s .entry)))) ⌝ }
+{
+    let identity = next(&KEY, s, at);
+    let plan_id = next(&IDENTITY, s, identity);
+    let owner_generation = next(&NAME, s, plan_id);
+    let authority_position = next(&NUMBER, s, owner_generation);
+    DeletePermit {
+        key: text_place(s, at),
+        identity: identity_at(s, identity),
+        plan_id: text_place(s, plan_id),
+        owner_generation: parts::u64_at(s, owner_generation),
+        authority_position: position_at(s, authority_position),
+    }
+}
+
+// Whether the record of these codes stands whole at a place and ends the slice, or its first fault.
+fn check_record(codes: &[u8], s: &[u8], at: usize) -> Checked
+    ensures { λ r. ⌜ r ≡ checkedOf (whole (walk 0 (codesOf (now (codes .entry))) (drop at (now (s .entry))))) ⌝ }
+{
+    let w = fields::walk_record(codes, s, at);
+    match w {
+        Walk::End(p) => {
+            if p < s.len() {
+                return Checked::Fault(MALFORMED);
+            }
+            Checked::Whole
+        }
+        Walk::Fault(e) => Checked::Fault(e),
+    }
+}
+
+fn window_at(s: &[u8], at: usize) -> SetRetentionWindow
+    ensures { λ r. ⌜ actionOf (now (s .entry)) (PublicationAction.SetRetentionWindow r) ≡ peek-action 2 (drop at (now (s .entry))) ⌝ }
+{
+    let retention_window = next(&NUMBER, s, at);
+    SetRetentionWindow {
+        expected_policy_epoch: parts::u64_at(s, at),
+        retention_window: parts::u64_at(s, retention_window),
+    }
+}
+
+fn configure_at(s: &[u8], at: usize) -> ConfigureCollectionRoot
+    ensures { λ r. ⌜ actionOf (now (s .entry)) (PublicationAction.ConfigureCollectionRoot r) ≡ peek-action 4 (drop at (now (s .entry))) ⌝ }
+{
+    let destination_root = next(&MAYBE_NAME, s, at);
+    ConfigureCollectionRoot {
+        expected: maybe_text_place(s, at),
+        destination_root: text_place(s, destination_root),
+    }
+}
+
+fn acquire_at(s: &[u8], at: usize) -> AcquireLease
+    ensures { λ r. ⌜ actionOf (now (s .entry)) (PublicationAction.AcquireLease r) ≡ peek-action 5 (drop at (now (s .entry))) ⌝ }
+{
+    let tenant_id = next(&NAME, s, at);
+    let snapshot_version = next(&NAME, s, tenant_id);
+    let owner = next(&NUMBER, s, snapshot_version);
+    let purpose = next(&NAME, s, owner);
+    let deadline_tick = next(&NAME, s, purpose);
+    let closure = next(&NUMBER, s, deadline_tick);
+    AcquireLease {
+        lease_id: text_place(s, at),
+        tenant_id: text_place(s, tenant_id),
+        snapshot_version: parts::u64_at(s, snapshot_version),
+        owner: text_place(s, owner),
+        purpose: text_place(s, purpose),
+        deadline_tick: parts::u64_at(s, deadline_tick),
+        closure: closure_at(s, closure),
+    }
+}
+
+fn renew_at(s: &[u8], at: usize) -> RenewLease
+    ensures { λ r. ⌜ actionOf (now (s .entry)) (PublicationAction.RenewLease r) ≡ peek-action 6 (drop at (now (s .entry))) ⌝ }
+{
+    let expected_lease_epoch = next(&NAME, s, at);
+    let new_deadline_tick = next(&NUMBER, s, expected_lease_epoch);
+    RenewLease {
+        lease_id: text_place(s, at),
+        expected_lease_epoch: parts::u64_at(s, expected_lease_epoch),
+        new_deadline_tick: parts::u64_at(s, new_deadline_tick),
+    }
+}
+
+fn release_at(s: &[u8], at: usize) -> ReleaseLease
+    ensures { λ r. ⌜ actionOf (now (s .entry)) (PublicationAction.ReleaseLease r) ≡ peek-action 7 (drop at (now (s .entry))) ⌝ }
+{
+    let expected_lease_epoch = next(&NAME, s, at);
+    ReleaseLease {
+        lease_id: text_place(s, at),
+        expected_lease_epoch: parts::u64_at(s, expected_lease_epoch),
+    }
+}
+
+fn clock_at(s: &[u8], at: usize) -> AdvanceLeaseClock
+    ensures { λ r. ⌜ actionOf (now (s .entry)) (PublicationAction.AdvanceLeaseClock r) ≡ peek-action 8 (drop at (now (s .entry))) ⌝ }
+{
+    let next_tick = next(&NUMBER, s, at);
+    AdvanceLeaseClock {
+        expected_tick: parts::u64_at(s, at),
+        next_tick: parts::u64_at(s, next_tick),
+    }
+}
+
+fn collect_at(s: &[u8], at: usize) -> PrepareCollection
+    ensures { λ r. ⌜ actionOf (now (s .entry)) (PublicationAction.PrepareCollection r) ≡ peek-action 9 (drop at (now (s .entry))) ⌝ }
+{
+    let frozen_floor = next(&NAME, s, at);
+    let input_manifest = next(&NUMBER, s, frozen_floor);
+    let destination_root = next(&REFERENCE, s, input_manifest);
+    let range_map_epoch = next(&NAME, s, destination_root);
+    let expected_collected_through = next(&NUMBER, s, range_map_epoch);
+    let output_namespace = next(&NUMBER, s, expected_collected_through);
+    PrepareCollection {
+        job_id: text_place(s, at),
+        frozen_floor: parts::u64_at(s, frozen_floor),
+        input_manifest: reference_at(s, input_manifest),
+        destination_root: text_place(s, destination_root),
+        range_map_epoch: parts::u64_at(s, range_map_epoch),
+        expected_collected_through: parts::u64_at(s, expected_collected_through),
+        output_namespace: text_place(s, output_namespace),
+    }
+}
+
+fn prepare_at(s: &[u8], at: usize) -> Prepare
+    ensures { λ r. ⌜ actionOf (now (s .entry)) (PublicationAction.Prepare r) ≡ peek-action 12 (drop at (now (s .entry))) ⌝ }
+{
+    let intent = next(&NAME, s, at);
+    Prepare {
+        publication_id: text_place(s, at),
+        intent: intent_at(s, intent),
+    }
+}
+
+fn publish_at(s: &[u8], at: usize) -> Publish
+    ensures { λ r. ⌜ actionOf (now (s .entry)) (PublicationAction.Publish r) ≡ peek-action 13 (drop at (now (s .entry))) ⌝ }
+{
+    let destination_root = next(&NAME, s, at);
+    let expected_prior_root = next(&NAME, s, destination_root);
+    let manifest = next(&MAYBE_REFERENCE, s, expected_prior_root);
+    Publish {
+        publication_id: text_place(s, at),
+        destination_root: text_place(s, destination_root),
+        expected_prior_root: maybe_reference_at(s, expected_prior_root),
+        manifest: reference_at(s, manifest),
+    }
+}
+
+fn pin_at(s: &[u8], at: usize) -> Pin
+    ensures { λ r. ⌜ actionOf (now (s .entry)) (PublicationAction.Pin r) ≡ peek-action 14 (drop at (now (s .entry))) ⌝ }
+{
+    let expected = next(&NAME, s, at);
+    let manifest = next(&MAYBE_REFERENCE, s, expected);
+    Pin {
+        pin_id: text_place(s, at),
+        expected: maybe_reference_at(s, expected),
+        manifest: reference_at(s, manifest),
+    }
+}
+
+fn unpin_at(s: &[u8], at: usize) -> Unpin
+    ensures { λ r. ⌜ actionOf (now (s .entry)) (PublicationAction.Unpin r) ≡ peek-action 15 (drop at (now (s .entry))) ⌝ }
+{
+    let expected = next(&NAME, s, at);
+    Unpin {
+        pin_id: text_place(s, at),
+        expected: reference_at(s, expected),
+    }
+}
+
+fn reserve_at(s: &[u8], at: usize) -> ReserveDelete
+    ensures { λ r. ⌜ actionOf (now (s .entry)) (PublicationAction.ReserveDelete r) ≡ peek-action 16 (drop at (now (s .entry))) ⌝ }
+{
+    let mark_epoch = next(&NAME, s, at);
+    let key = next(&NUMBER, s, mark_epoch);
+    let identity = next(&KEY, s, key);
+    ReserveDelete {
+        plan_id: text_place(s, at),
+        mark_epoch: parts::u64_at(s, mark_epoch),
+        key: text_place(s, key),
+        identity: identity_at(s, identity),
+    }
+}
+
+// Whether the fields after an action byte stand whole and end the request, or their first fault.
+fn check_fields(action: u8, s: &[u8]) -> Checked
+    ensures { λ r. ⌜ r ≡ checkedOf (whole (read-fields action (drop 27 (now (s .entry))))) ⌝ }
+{
+    match action {
+        1 => check_record(&NUMBER, s, FIELDS_AT),
+        2 => check_record(&SET_WINDOW, s, FIELDS_AT),
+        3 => check_record(&NUMBER, s, FIELDS_AT),
+        4 => check_record(&CONFIGURE, s, FIELDS_AT),
+        5 => check_record(&ACQUIRE, s, FIELDS_AT),
+        6 => check_record(&RENEW, s, FIELDS_AT),
+        7 => check_record(&RELEASE, s, FIELDS_AT),
+        8 => check_record(&ADVANCE_CLOCK, s, FIELDS_AT),
+        9 => check_record(&COLLECT, s, FIELDS_AT),
+        10 => check_record(&RECEIPT, s, FIELDS_AT),
+        11 => check_record(&image::JOB, s, FIELDS_AT),
+        12 => check_record(&PREPARE, s, FIELDS_AT),
+        13 => check_record(&PUBLISH, s, FIELDS_AT),
+        14 => check_record(&PIN, s, FIELDS_AT),
+        15 => check_record(&UNPIN, s, FIELDS_AT),
+        16 => check_record(&RESERVE, s, FIELDS_AT),
+        17 => check_record(&image::PERMIT, s, FIELDS_AT),
+        _ => Checked::Fault(MALFORMED),
+    }
+}
+
+// The action of an action byte, its fields read without checks. A byte other than 1 to 17 was refused before, so the last arm is for 17.
+fn action_at(action: u8, s: &[u8]) -> PublicationAction
+    ensures { λ r. ⌜ actionOf (now (s .entry)) r ≡ peek-action action (drop 27 (now (s .entry))) ⌝ }
+{
+    match action {
+        1 => PublicationAction::ObserveCommittedFrontier(parts::u64_at(s, FIELDS_AT)),
+        2 => PublicationAction::SetRetentionWindow(window_at(s, FIELDS_AT)),
+        3 => PublicationAction::ObserveRangeMapEpoch(parts::u64_at(s, FIELDS_AT)),
+        4 => PublicationAction::ConfigureCollectionRoot(configure_at(s, FIELDS_AT)),
+        5 => PublicationAction::AcquireLease(acquire_at(s, FIELDS_AT)),
+        6 => PublicationAction::RenewLease(renew_at(s, FIELDS_AT)),
+        7 => PublicationAction::ReleaseLease(release_at(s, FIELDS_AT)),
+        8 => PublicationAction::AdvanceLeaseClock(clock_at(s, FIELDS_AT)),
+        9 => PublicationAction::PrepareCollection(collect_at(s, FIELDS_AT)),
+        10 => PublicationAction::PublishCollection(receipt_at(s, FIELDS_AT)),
+        11 => PublicationAction::AbandonCollection(job_token_at(s, FIELDS_AT)),
+        12 => PublicationAction::Prepare(prepare_at(s, FIELDS_AT)),
+        13 => PublicationAction::Publish(publish_at(s, FIELDS_AT)),
+        14 => PublicationAction::Pin(pin_at(s, FIELDS_AT)),
+        15 => PublicationAction::Unpin(unpin_at(s, FIELDS_AT)),
+        16 => PublicationAction::ReserveDelete(reserve_at(s, FIELDS_AT)),
+        _ => PublicationAction::RetireDelete(permit_at(s, FIELDS_AT)),
+    }
+}
+
+fn context_at(s: &[u8], at: usize) -> AuthorityContext
+    ensures { λ r. ⌜ contextOf r ≡ context-of (peek context (drop at (now (s .entry)))) ⌝ }
+{
+    let position = next(&NUMBER, s, at);
+    AuthorityContext {
+        generation: parts::u64_at(s, at),
+        position: position_at(s, position),
+    }
+}
+
+// The fault flags as a number.
+fn flags_at(s: &[u8]) -> u32
+    ensures { λ r. ⌜ r ≡ value (take 2 (drop 24 (now (s .entry)))) ⌝ }
+{
+    parts::byte_at(s, FLAGS_AT) as u32 + 256 * (parts::byte_at(s, FLAGS_AT + 1) as u32)
+}
+
+// Whether the bit is set that stands for this power of two.
+fn has(flags: u32, power: u32) -> bool
+    requires { ⌜ 0 < power ⌝ }
+    ensures { λ r. ⌜ r ≡ eqb (flags / power % 2) 1 ⌝ }
+{
+    flags / power % 2 == 1
+}
+
+fn faults_from(flags: u32) -> PublicationAuthorityFaults
+    ensures { λ r. ⌜ faultsOf r ≡ faults-of flags ⌝ }
+{
+    PublicationAuthorityFaults {
+        publish_without_intent: has(flags, 1),
+        ignore_root_epoch: has(flags, 2),
+        ignore_delete_reservation: has(flags, 4),
+        ignore_root_compare: has(flags, 8),
+        allow_cross_generation_intent: has(flags, 16),
+        retire_by_plan_key_only: has(flags, 32),
+        accept_backdated_lease: has(flags, 64),
+        omit_lease_root_epoch: has(flags, 128),
+        ignore_collection_range_epoch: has(flags, 256),
+        advance_collection_without_publication: has(flags, 512),
+        ignore_collection_input_root: has(flags, 1024),
+    }
+}
+
+// Whether a request is whole: its head, its flags, the action byte, the action's fields, nothing after; or its first fault.
+fn check_request(s: &[u8]) -> Checked
+    ensures { λ r. ⌜ r ≡ checkedOf (decodeRequest (now (s .entry))) ⌝ }
+{
+    let w = fields::walk_record(&HEAD, s, 0);
+    match w {
+        Walk::Fault(e) => Checked::Fault(e),
+        Walk::End(_) => {
+            if FLAGS_END <= flags_at(s) {
+                return Checked::Fault(MALFORMED);
+            }
+            if s.len() <= ACTION_AT {
+                return Checked::Fault(MALFORMED);
+            }
+            check_fields(s[ACTION_AT], s)
+        }
+    }
+}
+
+// Reads a request, or its first fault.
+pub fn parse(s: &[u8]) -> Parsed
+    ensures { λ r. ⌜ parsedOf (now (s .entry)) r ≡ decodeRequest (now (s .entry)) ⌝ }
+{
+    let c = check_request(s);
+    match c {
+        Checked::Fault(e) => Parsed::Fault(e),
+        Checked::Whole => Parsed::Asked(Request {
+            context: context_at(s, 0),
+            faults: faults_from(flags_at(s)),
+            action: action_at(parts::byte_at(s, ACTION_AT), s),
+        }),
+    }
+}
+
+// Reads a token, or its first fault: its fields, nothing after.
+pub fn parse_token(s: &[u8]) -> ParsedToken
+    ensures { λ r. ⌜ tokenReadOf (now (s .entry)) r ≡ decodeToken (now (s .entry)) ⌝ }
+{
+    let c = check_record(&image::LEASE, s, 0);
+    match c {
+        Checked::Fault(e) => ParsedToken::Fault(e),
+        Checked::Whole => ParsedToken::Token(lease_token_at(s, 0)),
+    }
 }
