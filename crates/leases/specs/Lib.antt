@@ -1,0 +1,5 @@
+pub mod Rows
+pub mod Oldest
+pub mod Leased
+pub mod Placed
+pub mod Release

@@ -1,0 +1,96 @@
+-- The oldest leased version of the leases that stay, row by row.
+use Prim.Native.Nat.{ℕ, suc, _+_, _-_, _≤_, _<_, min}
+use native.Mathlib.Omega.{arith}
+use mathlib.Core.Bool.{Bool, cond}
+use mathlib.Core.List.{List, [], _∷_, _++_}
+use mathlib.Core.Path.{_≡_, refl, sym, ap, _∙_}
+use lib.ListN.{length, take, drop}
+use Rattle.parts.specs.Digits.{value}
+use Rattle.state.specs.Maps.{Text, same, Map, Every, _⟼_, key-of, remove}
+use Rattle.state.specs.MapLaws.{Each, by-test}
+use Rattle.state.specs.Records.{SnapshotLeaseToken, State}
+use Rattle.fields.specs.Format.{all}
+use Rattle.fields.specs.Codes.{Code, codes, skip, codeOf, codesOf}
+use Rattle.fields.specs.Walks.{placeOf, rest-place, rest-trans, rest-drop}
+use Rattle.fields.specs.Rows.{text-here}
+use Rattle.tables.specs.Skips.{skip-rest}
+use Rattle.tables.specs.Seek.{rows-at}
+use Rattle.tables.specs.SeekLaws.{Hopped, tails, rows-are}
+use Rattle.image.specs.Shapes.{lease}
+use Rattle.image.specs.Layout.{encodeImage, Formed}
+use Rattle.image.specs.Tables.{lease-row}
+use Rattle.image.specs.ImageParts.{leases-at, from-jobs, at-leases}
+use Rattle.image.specs.Stored.{leases-stored}
+use Rattle.machine.specs.Formed.{LeaseAt}
+use Rattle.machine.specs.Next.{oldest}
+use Rattle.entries.specs.Sized.{image-texts, well-formed}
+use Rattle.next.specs.Edit.{lease-codes}
+use Rattle.leases.specs.Rows.{before-version, version-row}
+
+-- a row that is gone is passed over
+unfoldable pub oldestKept : (List ℕ → Bool) → ℕ → List (List ℕ) → ℕ
+oldestKept gone floor [] = floor
+oldestKept gone floor (r ∷ rs) = cond (gone r) (oldestKept gone floor rs) (min (value (take 8 (skip 0 before-version r))) (oldestKept gone floor rs))
+
+version-codes : codesOf (64 ∷ 64 ∷ []) ≡ before-version
+unfolding codesOf codeOf
+version-codes = refl
+
+kept-in : (gone : List ℕ → Bool) (v m : ℕ) (rs : List (List ℕ)) → min v (oldestKept gone m rs) ≡ oldestKept gone (min v m) rs
+unfolding oldestKept
+kept-in gone v m [] = refl
+kept-in gone v m (r ∷ rs) =
+    let i = kept-in gone v m rs in
+    let w : ℕ = value (take 8 (skip 0 before-version r)) in
+    by-test (λ b. min v (cond b (oldestKept gone m rs) (min w (oldestKept gone m rs))) ≡ cond b (oldestKept gone (min v m) rs) (min w (oldestKept gone (min v m) rs))) (gone r)
+    (λ _. i) (λ _. omega arith)
+
+kept-row : (gone : List ℕ → Bool) (v m : ℕ) (r : List ℕ) (rs : List (List ℕ)) → v ≡ value (take 8 (skip 0 before-version r)) → oldestKept gone m (r ∷ rs) ≡ oldestKept gone (cond (gone r) m (min v m)) rs
+unfolding oldestKept
+kept-row gone v m r rs e =
+    ap (λ (n : ℕ). cond (gone r) (oldestKept gone m rs) (min n (oldestKept gone m rs))) (sym e)
+    ∙ by-test (λ b. cond b (oldestKept gone m rs) (min v (oldestKept gone m rs)) ≡ oldestKept gone (cond b m (min v m)) rs) (gone r) (λ _. refl) (λ _. kept-in gone v m rs)
+
+-- row after row, with what is left of s at p
+module _ (gone : List ℕ → Bool) (s : List ℕ) (p n i m : ℕ) where
+  pub kept-end : n ≤ i → oldestKept gone m (rows-at (codes lease) (n - i) (drop p s)) ≡ m
+  unfolding oldestKept rows-at
+  kept-end h = let z : n - i ≡ 0 = omega arith in rw z
+
+  pub kept-on : (v q : ℕ) → i < n → v ≡ value (take 8 (skip 0 (codesOf (64 ∷ 64 ∷ [])) (drop p s)))
+      → q ≡ placeOf s (skip 0 (codesOf (64 ∷ 64 ∷ 8 ∷ 8 ∷ 64 ∷ 64 ∷ 8 ∷ 9 ∷ 128 ∷ 8 ∷ 64 ∷ 10 ∷ 8 ∷ 8 ∷ 8 ∷ [])) (drop p s))
+      → oldestKept gone m (rows-at (codes lease) (n - i) (drop p s)) ≡ oldestKept gone (cond (gone (drop p s)) m (min v m)) (rows-at (codes lease) (n - (i + 1)) (drop q s))
+  unfolding rows-at
+  kept-on v q h ev eq =
+      let z : n - i ≡ suc (n - (i + 1)) = omega arith in
+      let d : drop q s ≡ skip 0 (codes lease) (drop p s) =
+      ap (λ (j : ℕ). drop j s) (eq ∙ ap (λ (cs : List Code). placeOf s (skip 0 cs (drop p s))) lease-codes) ∙ rest-place (rest-trans (rest-drop p s) (skip-rest 0 (codes lease) (drop p s))) in
+      ap (λ (k : ℕ). oldestKept gone m (rows-at (codes lease) k (drop p s))) z
+      ∙ kept-row gone v m (drop p s) (rows-at (codes lease) (n - (i + 1)) (skip 0 (codes lease) (drop p s))) (ev ∙ ap (λ (cs : List Code). value (take 8 (skip 0 cs (drop p s)))) version-codes)
+      ∙ ap (λ (l : List ℕ). oldestKept gone (cond (gone (drop p s)) m (min v m)) (rows-at (codes lease) (n - (i + 1)) l)) (sym d)
+
+-- the row of an id
+abbrev pub named : Text → List ℕ → Bool
+named k r = same k (text-here r)
+
+module _ (k : Text) (floor : ℕ) where
+  without-rows : (m : Map SnapshotLeaseToken) (r : List ℕ) → Each (LeaseAt image-texts) m → Every (Hopped (codes lease) lease-row key-of) m
+      → oldestKept (named k) floor (tails (codes lease) lease-row key-of m r) ≡ oldest floor (remove k m)
+  unfolding oldestKept oldest tails remove
+  without-rows [] r h o = refl
+  without-rows ((j ⟼ t) ∷ m) r h o =
+      let rest : ℕ = oldestKept (named k) floor (tails (codes lease) lease-row key-of m r) in
+      let v : ℕ = value (take 8 (skip 0 before-version (lease-row (j ⟼ t) ++ (all lease-row m ++ r)))) in
+      ap (λ (i : Text). cond (same k i) rest (min v rest)) (o .0 .head (all lease-row m ++ r))
+      ∙ ap (λ (n : ℕ). cond (same k j) rest (min n rest)) (version-row t (all lease-row m ++ r) (h .0 .1 .1 .1 .0))
+      ∙ by-test (λ b. cond b rest (min (t .snapshot-version) rest) ≡ oldest floor (cond b (remove k m) ((j ⟼ t) ∷ remove k m))) (same k j)
+      (λ _. without-rows m r (h .1) (o .1))
+      (λ _. ap (min (t .snapshot-version)) (without-rows m r (h .1) (o .1)))
+
+-- THE OLDEST LEASED VERSION OF AN IMAGE WITHOUT ONE LEASE
+pub without-here : (s : State) (x : List ℕ) → encodeImage s ≡ x → Formed s → (k : Text) (floor : ℕ)
+    → oldestKept (named k) floor (rows-at (codes lease) (length (s .leases)) (drop (leases-at s) x)) ≡ oldest floor (remove k (s .leases))
+without-here s x e f k floor =
+    ap (λ (l : List ℕ). oldestKept (named k) floor (rows-at (codes lease) (length (s .leases)) l)) (ap (drop (leases-at s)) (sym e) ∙ at-leases s)
+    ∙ ap (oldestKept (named k) floor) (rows-are (codes lease) lease-row key-of (s .leases) (from-jobs s) (leases-stored s f .hopped))
+    ∙ without-rows k floor (s .leases) (from-jobs s) (well-formed s f .leases .each) (leases-stored s f .hopped)

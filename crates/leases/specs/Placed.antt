@@ -1,0 +1,109 @@
+-- The place of a lease in the image: whether one stands there, its numbers, and the tables with it removed or replaced.
+use Prim.Native.Nat.{ℕ, _+_, _-_, _≤_, _<_}
+use native.Mathlib.Omega.{arith}
+use mathlib.Core.List.{List, [], _∷_, _++_, append-assoc, append-nil}
+use mathlib.Core.Option.{Option, none, some}
+use mathlib.Core.Path.{_≡_, sym, ap, _∙_, subst}
+use lib.ListN.{length, take, drop, length-append}
+use Rattle.parts.specs.Digits.{value}
+use Rattle.parts.specs.Gather.{gatherOf, run}
+use Rattle.state.specs.Maps.{Text, Map, Entry, _⟼_, lookup, remove}
+use Rattle.state.specs.Places.{ahead, at, behind}
+use Rattle.state.specs.Records.{SnapshotLeaseToken, State}
+use Rattle.fields.specs.Format.{all, enc, enc-text}
+use Rattle.fields.specs.Codes.{codes, codeOf, codesOf, skip}
+use Rattle.tables.specs.Seek.{seek, placed}
+use Rattle.tables.specs.declared.Place.{Place}
+use Rattle.image.specs.Shapes.{lease}
+use Rattle.image.specs.Layout.{encodeImage, Formed}
+use Rattle.image.specs.Opened.{contentsOf}
+use Rattle.image.specs.Tables.{lease-row, bytes-remove}
+use Rattle.image.specs.ImageParts.{leases-bytes, intents-at, leases-at, from-jobs}
+use Rattle.image.specs.Stored.{leases-stored}
+use Rattle.image.specs.declared.Contents.{Contents}
+use Rattle.machine.specs.Actions.{Rule, find-or, decide}
+use Rattle.next.specs.Kept.{tables-here, length-here, before-leases, leases-seam}
+use Rattle.next.specs.Edit.{lease-codes, none-there, some-there, from-place, run-ahead, run-behind, remove-size, remove-count}
+use Rattle.leases.specs.Rows.{before-epoch, epoch-row}
+
+long : (e : Entry SnapshotLeaseToken) → 1 ≤ length (lease-row e)
+unfolding enc enc-text
+long (k ⟼ t) = omega arith
+
+-- a lookup in a rule that finds
+pub found-then : {A : Type 0} (n : ℕ) (o : Option A) (rest : A → Rule) (v : A) → o ≡ some v → decide (find-or n o rest) ≡ decide (rest v)
+unfolding decide
+found-then {A} n o rest v h = ap (λ (p : Option A). decide (find-or n p rest)) h
+
+-- the place of an id, as the code finds it
+abbrev Located : List ℕ → Contents → Text → Place → Type 0
+Located x c k place = place ≡ placed x (seek (codesOf (64 ∷ 64 ∷ 8 ∷ 8 ∷ 64 ∷ 64 ∷ 8 ∷ 9 ∷ 128 ∷ 8 ∷ 64 ∷ 10 ∷ 8 ∷ 8 ∷ 8 ∷ [])) (c .leases .count) k (drop (c .leases .at) x))
+
+pub record Found (x : List ℕ) (c : Contents) (k : Text) (place : Place) : Type 0 where
+  pub is : Located x c k place
+
+-- by the id's bytes as they were cut out of the request
+pub found-as : {x : List ℕ} {c : Contents} {k : Text} {place : Place} (id : Text) → id ≡ k → Located x c id place → Found x c k place
+found-as {x} {c} {k} {place} id i f = record { is = subst (λ (j : Text). Located x c j place) i f }
+
+module _ (s : State) (x : List ℕ) (e : encodeImage s ≡ x) (w : Formed s) (c : Contents) (o : c ≡ contentsOf s) (k : Text) (place : Place) (f : Found x c k place) where
+  abbrev m : Map SnapshotLeaseToken
+  m = s .leases
+
+  -- the tables before the leases
+  abbrev front : List ℕ
+  front = before-leases s []
+
+  here : drop (intents-at s) x ≡ front ++ (leases-bytes s ++ from-jobs s)
+  here = tables-here s x e ∙ leases-seam s [] (leases-bytes s ++ from-jobs s)
+
+  starts : leases-at s ≡ intents-at s + length front
+  starts = simp length-append (omega arith)
+
+  low : intents-at s ≤ length x
+  low = omega (arith, length-here s x e)
+
+  found : place ≡ placed x (seek (codes lease) (length m) k (drop (leases-at s) x))
+  found = f .is ∙ (λ i. placed x (seek (lease-codes i) (o i .leases .count) k (drop (o i .leases .at) x)))
+
+  pub missing : place .end ≤ place .start → (at k m ≡ []) × (lookup k m ≡ none)
+  missing h = none-there (codes lease) lease-row x (intents-at s) (leases-at s) front m (from-jobs s) here starts low (leases-stored s w .hopped) k place found long (leases-stored s w .ascending) h
+
+  pub held : place .start < place .end → (v : SnapshotLeaseToken) × (at k m ≡ (k ⟼ v) ∷ []) × (lookup k m ≡ some v)
+  held h = some-there (codes lease) lease-row x (intents-at s) (leases-at s) front m (from-jobs s) here starts low (leases-stored s w .hopped) k place found long (leases-stored s w .ascending) h
+
+  -- where one stands
+  module _ (v : SnapshotLeaseToken) (there : at k m ≡ (k ⟼ v) ∷ []) (looked : lookup k m ≡ some v) where
+    abbrev rest : List ℕ
+    rest = all lease-row (behind k m) ++ from-jobs s
+
+    pub row-there : drop (place .start) x ≡ lease-row (k ⟼ v) ++ rest
+    unfolding all
+    row-there =
+        from-place (codes lease) lease-row x (intents-at s) (leases-at s) front m (from-jobs s) here starts low (leases-stored s w .hopped) k place found
+        ∙ ap (λ (l : Map SnapshotLeaseToken). all lease-row l ++ rest) there ∙ ap (λ (l : List ℕ). l ++ rest) (append-nil (lease-row (k ⟼ v)))
+
+    pub epoch-there : value (take 8 (skip 0 (codesOf (64 ∷ 64 ∷ 8 ∷ [])) (drop (place .start) x))) ≡ v .lease-epoch
+    unfolding codesOf codeOf
+    epoch-there = ap (λ (l : List ℕ). value (take 8 (skip 0 before-epoch l))) row-there ∙ epoch-row v rest (leases-stored s w .found k v looked .1 .1 .1 .1 .0)
+
+    pub removed-count : length (remove k m) ≡ c .leases .count - 1
+    removed-count = remove-count k m v (leases-stored s w .ascending) there ∙ ap (λ (d : Contents). d .leases .count - 1) (sym o)
+
+  pub removed-size : length (all lease-row (remove k m)) ≡ c .leases .size - (place .end - place .start)
+  removed-size =
+      remove-size (codes lease) lease-row x (intents-at s) (leases-at s) front m (from-jobs s) here starts low (leases-stored s w .hopped) k place found (leases-stored s w .ascending)
+      ∙ ap (λ (d : Contents). d .leases .size - (place .end - place .start)) (sym o)
+
+  -- THE TABLES WITHOUT IT
+  pub removed-tables : (q : List ℕ) → gatherOf x q (0 ∷ c .intents .at ∷ (place .start - c .intents .at) ∷ 0 ∷ place .end ∷ length x ∷ []) ≡ before-leases s (all lease-row (remove k m) ++ from-jobs s)
+  removed-tables q =
+      let a : List ℕ = all lease-row (ahead k m) in
+      let b : List ℕ = all lease-row (behind k m) in
+      let r : List ℕ = from-jobs s in
+      ap (λ (d : Contents). gatherOf x q (0 ∷ d .intents .at ∷ (place .start - d .intents .at) ∷ 0 ∷ place .end ∷ length x ∷ [])) o
+      ∙ ap (λ (l : List ℕ). l ++ (run x (place .end) (length x) ++ []))
+      (run-ahead (codes lease) lease-row x (intents-at s) (leases-at s) front m r here starts low (leases-stored s w .hopped) k place found)
+      ∙ ap (λ (l : List ℕ). (front ++ a) ++ l) (append-nil (run x (place .end) (length x)) ∙ run-behind (codes lease) lease-row x (intents-at s) (leases-at s) front m r here starts low (leases-stored s w .hopped) k place found)
+      ∙ append-assoc front a (b ++ r) ∙ ap (λ (l : List ℕ). front ++ l) (sym (append-assoc a b r) ∙ ap (λ (l : List ℕ). l ++ r) (sym (bytes-remove lease-row k m (leases-stored s w .ascending))))
+      ∙ sym (leases-seam s [] (all lease-row (remove k m) ++ r))

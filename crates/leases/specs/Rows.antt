@@ -1,0 +1,50 @@
+-- The numbers of a stored lease: each behind the fields that stand before it.
+use Prim.Native.Nat.{ℕ, _^_, _<_}
+use mathlib.Core.List.{List, [], _∷_, _++_, append-assoc}
+use mathlib.Core.Path.{_≡_, ap, _∙_}
+use lib.ListN.{take}
+use Rattle.parts.specs.Digits.{digits, value}
+use Rattle.state.specs.Records.{SnapshotLeaseToken}
+use Rattle.fields.specs.Format.{Field, _▹_, El, enc}
+use Rattle.fields.specs.Codes.{Code, a-text, a-number, codes, skip}
+use Rattle.image.specs.Shapes.{short, u64, name, position, closure, lease, lease-parts}
+use Rattle.next.specs.Peeks.{skip-to, number-here}
+
+abbrev pub before-version : List Code
+before-version = a-text short ∷ a-text short ∷ []
+
+abbrev pub before-epoch : List Code
+before-epoch = a-text short ∷ a-text short ∷ a-number 8 ∷ []
+
+abbrev pub before-deadline : List Code
+before-deadline = a-text short ∷ a-text short ∷ a-number 8 ∷ a-number 8 ∷ a-text short ∷ a-text short ∷ []
+
+-- a number behind a field
+number-in : (f : Field) (v : El f) (n : ℕ) (r : List ℕ) → n < 256 ^ 8 → value (take 8 (skip 0 (codes f) (enc f v ++ (digits 8 n ++ r)))) ≡ n
+number-in f v n r h = ap (λ (l : List ℕ). value (take 8 l)) (skip-to f v (digits 8 n ++ r)) ∙ number-here n r h
+
+module _ (t : SnapshotLeaseToken) (r : List ℕ) where
+  pub version-row : t .snapshot-version < 256 ^ 8 → value (take 8 (skip 0 before-version (enc lease (lease-parts t) ++ r))) ≡ t .snapshot-version
+  unfolding enc codes
+  version-row h =
+      let b = enc (u64 ▹ name ▹ name ▹ u64 ▹ closure ▹ u64 ▹ position) (lease-parts t .1 .1 .1) in
+      let e : enc lease (lease-parts t) ++ r ≡ enc (name ▹ name) (t .lease-id, t .tenant-id) ++ (digits 8 (t .snapshot-version) ++ (b ++ r)) = simp append-assoc in
+      ap (λ (l : List ℕ). value (take 8 (skip 0 before-version l))) e ∙ number-in (name ▹ name) (t .lease-id, t .tenant-id) (t .snapshot-version) (b ++ r) h
+
+  pub epoch-row : t .lease-epoch < 256 ^ 8 → value (take 8 (skip 0 before-epoch (enc lease (lease-parts t) ++ r))) ≡ t .lease-epoch
+  unfolding enc codes
+  epoch-row h =
+      let f : Field = name ▹ name ▹ u64 in
+      let v : El f = (t .lease-id, (t .tenant-id, t .snapshot-version)) in
+      let b = enc (name ▹ name ▹ u64 ▹ closure ▹ u64 ▹ position) (lease-parts t .1 .1 .1 .1) in
+      let e : enc lease (lease-parts t) ++ r ≡ enc f v ++ (digits 8 (t .lease-epoch) ++ (b ++ r)) = simp append-assoc in
+      ap (λ (l : List ℕ). value (take 8 (skip 0 before-epoch l))) e ∙ number-in f v (t .lease-epoch) (b ++ r) h
+
+  pub deadline-row : t .deadline-tick < 256 ^ 8 → value (take 8 (skip 0 before-deadline (enc lease (lease-parts t) ++ r))) ≡ t .deadline-tick
+  unfolding enc codes
+  deadline-row h =
+      let f : Field = name ▹ name ▹ u64 ▹ u64 ▹ name ▹ name in
+      let v : El f = (t .lease-id, (t .tenant-id, (t .snapshot-version, (t .lease-epoch, (t .owner, t .purpose))))) in
+      let b = enc (closure ▹ u64 ▹ position) (lease-parts t .1 .1 .1 .1 .1 .1 .1) in
+      let e : enc lease (lease-parts t) ++ r ≡ enc f v ++ (digits 8 (t .deadline-tick) ++ (b ++ r)) = simp append-assoc in
+      ap (λ (l : List ℕ). value (take 8 (skip 0 before-deadline l))) e ∙ number-in f v (t .deadline-tick) (b ++ r) h

@@ -1,0 +1,169 @@
+// The actions on one lease by its id: release.
+ghost use mathlib.Core.Bool.{cond};
+ghost use mathlib.Core.Path.{_≡_};
+ghost use Prim.Native.Nat.{_+_, _-_, _≤_, min};
+ghost use lib.ListN.{length, take, drop};
+ghost use Rattle.parts.specs.Answer.{Gave};
+ghost use Rattle.parts.specs.Digits.{value};
+ghost use Rattle.fields.specs.Codes.{codes, codesOf, skip};
+ghost use Rattle.image.specs.Shapes.{lease};
+ghost use Rattle.tables.specs.Seek.{rows-at};
+ghost use Rattle.entries.specs.Bytes.{applyBytes};
+ghost use Rattle.requests.specs.declared.PublicationAction.{PublicationAction};
+ghost use Rattle.next.specs.Call.{Ready};
+ghost use Rattle.leases.specs.Oldest.{named, oldestKept};
+ghost use Rattle.leases.specs.Leased.{withLeases};
+use image::Contents;
+use image::Scalars;
+use image::Table;
+use parts::Applied;
+use requests::AuthorityContext;
+use requests::PublicationAuthorityFaults;
+use requests::ReleaseLease;
+
+// The number that stands in the record at a place behind some of its fields.
+fn number_after(before: &[u8], s: &[u8], at: usize) -> u64
+    ensures { λ r. ⌜ r ≡ value (take 8 (skip 0 (codesOf (now (before .entry))) (drop at (now (s .entry))))) ⌝ }
+{
+    parts::u64_at(s, tables::skip_record(before, s, at))
+}
+
+// The smaller of m and the version, or m where the lease is gone.
+fn older(gone: bool, version: u64, m: u64) -> u64
+    ensures { λ r. ⌜ r ≡ cond gone m (min version m) ⌝ }
+{
+    if gone {
+        return m;
+    }
+    if version < m { version } else { m }
+}
+
+// The smallest of floor and the versions of n leases that stand at a place, but for the lease with an id.
+fn oldest_without(s: &[u8], at: usize, n: usize, id: &[u8], floor: u64) -> u64
+    ensures { λ r. ⌜ r ≡ oldestKept (named (now (id .entry))) floor (rows-at (codes lease) n (drop at (now (s .entry)))) ⌝ }
+{
+    let before = [64u8, 64];
+    let mut i = 0;
+    let mut p = fields::within(s, at);
+    let mut m = floor;
+    while i < n {
+        m = older(
+            text::same(id, fields::text_at(s, p)),
+            number_after(&before, s, p),
+            m,
+        );
+        p = tables::skip_record(&image::LEASE, s, p);
+        i += 1;
+    }
+    m
+}
+
+// The contents after a change of leases: the numbers that it sets, and the size and count of the table.
+fn with_leases(
+    c: Contents,
+    x: AuthorityContext,
+    root_epoch: u64,
+    policy: u64,
+    readable: u64,
+    clock: u64,
+    epoch: u64,
+    size: usize,
+    count: usize,
+) -> Contents
+    ensures { λ r. ⌜ r ≡ withLeases c x «root_epoch» policy readable clock epoch size count ⌝ }
+{
+    let n = c.scalars;
+    let w = n.retention_window;
+    let root = n.collection_root;
+    let m = Scalars {
+        term: x.position.term,
+        index: x.position.index,
+        root_intent_epoch: root_epoch,
+        observed_commit_frontier: n.observed_commit_frontier,
+        retention_window: w,
+        retention_policy_epoch: n.retention_policy_epoch,
+        policy_floor: policy,
+        minimum_readable_version: readable,
+        physically_collected_through: n.physically_collected_through,
+        lease_clock_tick: clock,
+        lease_epoch: epoch,
+        range_map_epoch: n.range_map_epoch,
+        collection_root: root,
+    };
+    let intents = c.intents;
+    let roots = c.roots;
+    let pins = c.pins;
+    let reservations = c.reservations;
+    let jobs = c.jobs;
+    Contents {
+        format_version: c.format_version,
+        scalars: m,
+        intents,
+        roots,
+        pins,
+        reservations,
+        leases: Table {
+            at: c.leases.at,
+            size,
+            count,
+        },
+        jobs,
+    }
+}
+
+pub fn release_lease(
+    image: &[u8],
+    c: Contents,
+    request: &[u8],
+    x: AuthorityContext,
+    f: PublicationAuthorityFaults,
+    a: ReleaseLease,
+    next: &mut [u8],
+    outcome: &mut [u8],
+) -> Applied
+    requires { ⌜ Ready (now image) c (now request) (record { context = x; faults = f; action = PublicationAction.ReleaseLease a }) ⌝ }
+    ensures { λ r. ⌜ Gave (applyBytes (now (image .entry)) (now (request .entry)) (length (now (next .entry))) (length (now (outcome .entry)))) (now (next .entry)) (now (outcome .entry)) r (now (next .exit)) (now (outcome .exit)) ⌝ }
+{
+    let n = c.scalars;
+    let leases = c.leases;
+    let t = a.lease_id;
+    let id = parts::clip(request, t.at, t.len);
+    let p = tables::locate(&image::LEASE, image, leases.at, leases.count, id);
+    if p.end <= p.start {
+        return parts::refuse(22);
+    }
+    let before = [64u8, 64, 8];
+    let held = number_after(&before, image, p.start);
+    if held != a.expected_lease_epoch {
+        return parts::refuse(23);
+    }
+    let w = n.retention_window;
+    let epoch = next::up(n.lease_epoch);
+    let root_epoch = next::up_unless(f.omit_lease_root_epoch, n.root_intent_epoch);
+    let policy = floor::policy_for(w, n.observed_commit_frontier, n.policy_floor);
+    let candidate = oldest_without(image, leases.at, leases.count, id, policy);
+    let readable = floor::readable_for(w, candidate, n.minimum_readable_version);
+    let size = parts::less(leases.size, p.end - p.start);
+    let count = parts::less(leases.count, 1);
+    let c2 = with_leases(
+        c,
+        x,
+        root_epoch,
+        policy,
+        readable,
+        n.lease_clock_tick,
+        epoch,
+        size,
+        count,
+    );
+    let body = [
+        0,
+        c.intents.at,
+        parts::less(p.start, c.intents.at),
+        0,
+        p.end,
+        image.len(),
+    ];
+    let told = [2, 0, 1];
+    next::emit(0, c2, image, request, &body, &told, next, outcome)
+}
