@@ -1,0 +1,100 @@
+-- The place of a job in the image: jobs are its last table.
+use Prim.Native.Nat.{ℕ, _+_, _-_, _≤_, _<_}
+use native.Mathlib.Omega.{arith}
+use mathlib.Core.List.{List, [], _∷_, _++_, append-assoc, append-nil}
+use mathlib.Core.Option.{none, some}
+use mathlib.Core.Path.{_≡_, sym, ap, _∙_}
+use lib.ListN.{length, drop, length-append}
+use Rattle.text.specs.Same.{sameOf}
+use Rattle.parts.specs.Gather.{run, gatherOf}
+use Rattle.state.specs.Maps.{Text, Map, Entry, _⟼_, lookup, remove}
+use Rattle.state.specs.Places.{ahead, at, behind}
+use Rattle.state.specs.Records.{State, CollectionJobToken, job-eq}
+use Rattle.fields.specs.Format.{all, enc, enc-text, Within}
+use Rattle.fields.specs.Codes.{Code, codes, codesOf}
+use Rattle.tables.specs.Seek.{seek, placed}
+use Rattle.tables.specs.declared.Place.{Place}
+use Rattle.image.specs.Shapes.{job, job-parts}
+use Rattle.image.specs.Layout.{encodeImage, Formed}
+use Rattle.image.specs.Tables.{job-row, bytes-remove}
+use Rattle.image.specs.SameBytes.{same-job}
+use Rattle.image.specs.ImageParts.{jobs-bytes, intents-at, jobs-at}
+use Rattle.image.specs.Opened.{contentsOf}
+use Rattle.image.specs.Stored.{jobs-stored}
+use Rattle.image.specs.declared.Contents.{Contents}
+use Rattle.image.specs.declared.Table.{Table}
+use Rattle.next.specs.Kept.{tables-here, length-here, before-jobs, jobs-seam}
+use Rattle.next.specs.Edit.{job-codes, remove-count, run-ahead, run-behind, run-row, remove-size, none-there, some-there}
+use Rattle.next.specs.Shows.{Shown}
+
+job-long : (e : Entry CollectionJobToken) → 1 ≤ length (job-row e)
+unfolding enc enc-text
+job-long (k ⟼ v) = omega arith
+
+-- the image from its tables on, at its jobs
+module _ (s : State) (x : List ℕ) (e : encodeImage s ≡ x) where
+  pub jobs-here : drop (intents-at s) x ≡ before-jobs s [] ++ (all job-row (s .collection-jobs) ++ [])
+  jobs-here = tables-here s x e ∙ jobs-seam s [] (jobs-bytes s) ∙ ap (λ (l : List ℕ). before-jobs s [] ++ l) (sym (append-nil (jobs-bytes s)))
+
+  pub jobs-start : jobs-at s ≡ intents-at s + length (before-jobs s [])
+  jobs-start = simp length-append (omega arith)
+
+  pub tables-low : intents-at s ≤ length x
+  tables-low = omega (arith, length-here s x e)
+
+module _ (s : State) (x : List ℕ) (e : encodeImage s ≡ x) (f : Formed s) (c : Contents) (o : c ≡ contentsOf s) (id : Text) (place : Place)
+    (located : place ≡ placed x (seek (codesOf (64 ∷ 8 ∷ 8 ∷ 8 ∷ 8 ∷ 9 ∷ 128 ∷ 8 ∷ 64 ∷ 64 ∷ 8 ∷ 8 ∷ 128 ∷ [])) (c .jobs .count) id (drop (c .jobs .at) x)))
+  where
+    abbrev jobs : Map CollectionJobToken
+    jobs = s .collection-jobs
+
+    pub job-found : place ≡ placed x (seek (codes job) (length jobs) id (drop (jobs-at s) x))
+    job-found =
+        located
+        ∙ ap (λ (c : Contents). placed x (seek (codesOf (64 ∷ 8 ∷ 8 ∷ 8 ∷ 8 ∷ 9 ∷ 128 ∷ 8 ∷ 64 ∷ 64 ∷ 8 ∷ 8 ∷ 128 ∷ [])) (c .jobs .count) id (drop (c .jobs .at) x))) o
+        ∙ ap (λ (cs : List Code). placed x (seek cs (length jobs) id (drop (jobs-at s) x))) job-codes
+
+    pub no-job : place .end ≤ place .start → (at id jobs ≡ []) × (lookup id jobs ≡ none)
+    no-job = none-there (codes job) job-row x (intents-at s) (jobs-at s) (before-jobs s []) jobs [] (jobs-here s x e) (jobs-start s x e) (tables-low s x e) (jobs-stored s f .hopped) id place job-found job-long
+        (jobs-stored s f .ascending)
+
+    pub some-job : place .start < place .end → (v : CollectionJobToken) × (at id jobs ≡ (id ⟼ v) ∷ []) × (lookup id jobs ≡ some v)
+    some-job = some-there (codes job) job-row x (intents-at s) (jobs-at s) (before-jobs s []) jobs [] (jobs-here s x e) (jobs-start s x e) (tables-low s x e) (jobs-stored s f .hopped) id place job-found job-long
+        (jobs-stored s f .ascending)
+
+    module _ (v : CollectionJobToken) (there : at id jobs ≡ (id ⟼ v) ∷ []) (is : lookup id jobs ≡ some v) where
+      job-bytes : run x (place .start) (place .end - place .start) ≡ enc job (job-parts v)
+      unfolding all
+      job-bytes =
+          run-row (codes job) job-row x (intents-at s) (jobs-at s) (before-jobs s []) jobs [] (jobs-here s x e) (jobs-start s x e) (tables-low s x e) (jobs-stored s f .hopped) id place job-found
+          ∙ ap (all job-row) there ∙ append-nil (job-row (id ⟼ v))
+
+      -- EQUAL BYTES ARE AN EQUAL JOB
+      pub job-same : (t : CollectionJobToken) → Within job (job-parts t) → (stored shown : List ℕ) → stored ≡ run x (place .start) (place .end - place .start) → shown ≡ enc job (job-parts t)
+          → sameOf stored shown ≡ job-eq v t
+      job-same t w stored shown e₁ e₂ = (λ i. sameOf ((e₁ ∙ job-bytes) i) (e₂ i)) ∙ same-job v t (jobs-stored s f .found id v is .1) w
+
+      -- THE TABLE WITHOUT IT
+      pub job-gone : (t : Table) → t .size ≡ c .jobs .size - (place .end - place .start) → t .count ≡ c .jobs .count - 1 → Shown t (all job-row (remove id jobs)) (length (remove id jobs))
+      job-gone t z n = record {
+        size = z ∙ ap (λ (k : Contents). k .jobs .size - (place .end - place .start)) o
+            ∙ sym (remove-size (codes job) job-row x (intents-at s) (jobs-at s) (before-jobs s []) jobs [] (jobs-here s x e) (jobs-start s x e) (tables-low s x e) (jobs-stored s f .hopped) id place job-found
+            (jobs-stored s f .ascending));
+        count = n ∙ ap (λ (k : Contents). k .jobs .count - 1) o ∙ sym (remove-count id jobs v (jobs-stored s f .ascending) there);
+      }
+
+    -- the runs around a job
+    pub jobs-without : (q : List ℕ) (n : ℕ) → n ≡ place .start - c .intents .at
+        → gatherOf x q (0 ∷ c .intents .at ∷ n ∷ 0 ∷ place .end ∷ length x ∷ []) ≡ before-jobs s (all job-row (remove id jobs))
+    jobs-without q n h =
+        let a = all job-row (ahead id jobs) in
+        let b = all job-row (behind id jobs) in
+        let i : c .intents .at ≡ intents-at s = ap (λ (k : Contents). k .intents .at) o in
+        (λ j. run x (i j) ((h ∙ ap (λ (m : ℕ). place .start - m) i) j) ++ (run x (place .end) (length x) ++ []))
+        ∙ (λ j. run-ahead (codes job) job-row x (intents-at s) (jobs-at s) (before-jobs s []) jobs [] (jobs-here s x e) (jobs-start s x e) (tables-low s x e) (jobs-stored s f .hopped) id place job-found j
+        ++ append-nil (run x (place .end) (length x)) j)
+        ∙ ap (λ (l : List ℕ). (before-jobs s [] ++ a) ++ l)
+        (run-behind (codes job) job-row x (intents-at s) (jobs-at s) (before-jobs s []) jobs [] (jobs-here s x e) (jobs-start s x e) (tables-low s x e) (jobs-stored s f .hopped) id place job-found ∙ append-nil b)
+        ∙ append-assoc (before-jobs s []) a b
+        ∙ ap (λ (l : List ℕ). before-jobs s [] ++ l) (sym (bytes-remove job-row id jobs (jobs-stored s f .ascending)))
+        ∙ sym (jobs-seam s [] (all job-row (remove id jobs)))
