@@ -1,0 +1,5 @@
+pub mod Tests
+pub mod References
+pub mod Pins
+pub mod UnpinRule
+pub mod UnpinCall

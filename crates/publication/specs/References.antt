@@ -1,0 +1,69 @@
+-- References as bytes: those of a stored row after its id, and those of an option after its flag, are the same just where both
+-- are absent or both hold equal references.
+use Prim.Native.Nat.{ℕ, suc, _+_, _-_, _≤_}
+use native.Mathlib.Omega.{arith}
+use mathlib.Core.List.{List, [], _++_, append-nil}
+use mathlib.Core.Option.{Option, none, some}
+use mathlib.Core.Path.{_≡_, refl}
+use lib.ListN.{length, drop}
+use lib.Seq.{drop-append-seam, drop-nil}
+use Rattle.text.specs.Same.{sameOf}
+use Rattle.state.specs.Maps.{Text, Map, Entry, _⟼_, lookup, same-option}
+use Rattle.state.specs.Sorted.{Ascending}
+use Rattle.state.specs.Places.{at}
+use Rattle.state.specs.Records.{ObjectReference, reference-eq}
+use Rattle.fields.specs.Format.{Field, El, enc, enc-text, enc-option, option, all, Within}
+use Rattle.image.specs.Body.{row}
+use Rattle.image.specs.Shapes.{short, reference, reference-parts, each-option}
+use Rattle.image.specs.Layout.{row-of}
+use Rattle.image.specs.Tables.{reference-row}
+use Rattle.image.specs.Stored.{Stored}
+use Rattle.image.specs.SameBytes.{same-reference}
+use Rattle.next.specs.Edit.{Standing, absent, present, standing}
+
+abbrev pub held : Option ObjectReference → List ℕ
+held none = []
+held (some v) = enc reference (reference-parts v)
+
+abbrev pub HeldWithin : Option ObjectReference → Type 0
+HeldWithin o = Within (option reference) (each-option reference-parts o)
+
+pub same-held : (a b : Option ObjectReference) → HeldWithin a → HeldWithin b → sameOf (held a) (held b) ≡ same-option reference-eq a b
+unfolding sameOf enc
+same-held none none h k = refl
+same-held none (some w) h k = refl
+same-held (some v) none h k = refl
+same-held (some v) (some w) h k = same-reference v w h k
+
+-- an option after its flag
+pub option-held : (o : Option ObjectReference) → drop 1 (enc (option reference) (each-option reference-parts o)) ≡ held o
+unfolding enc enc-option
+option-held none = refl
+option-held (some v) = refl
+
+-- a row after its id
+pub row-rest : (n : ℕ) (f : Field) (v : El (row n f)) → drop (length (v .0) + 1) (enc (row n f) v ++ []) ≡ enc f (v .1)
+unfolding enc enc-text
+row-rest n f v =
+    let k : length (v .0) + 1 ≡ suc (length (v .0)) = omega arith in
+    rw (k, append-nil) (drop-append-seam (v .0) (enc f (v .1)))
+
+pub row-held : (k : Text) (m : Map ObjectReference) → Ascending m → drop (length k + 1) (all reference-row (at k m)) ≡ held (lookup k m)
+unfolding all
+row-held k m a = go (standing k m a)
+  where
+    go : Standing k m → drop (length k + 1) (all reference-row (at k m)) ≡ held (lookup k m)
+    go (absent e l) = rw (e, l) (drop-nil (length k + 1))
+    go (present v e l) = rw (e, l) (row-rest short reference (k, reference-parts v))
+
+-- what is stored is within its format
+pub held-within : (m : Map ObjectReference) → Stored short reference (row-of reference-parts) m → (k : Text) → HeldWithin (lookup k m)
+held-within m st k = go (lookup k m) refl
+  where
+    go : (o : Option ObjectReference) → lookup k m ≡ o → HeldWithin o
+    go none e = tt
+    go (some v) e = st .found k v e .1 .1
+
+pub reference-long : (e : Entry ObjectReference) → 1 ≤ length (reference-row e)
+unfolding enc enc-text
+reference-long (k ⟼ v) = omega arith
