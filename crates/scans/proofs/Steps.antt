@@ -1,0 +1,73 @@
+-- One row of a scan.
+use Prim.Native.Nat.{ℕ, suc, _+_, _-_, _≤_, _<_, min}
+use native.Mathlib.Omega.{arith}
+use mathlib.Core.List.{List, [], _∷_}
+use mathlib.Core.Bool.{Bool, true, false, _||_}
+use mathlib.Core.Path.{_≡_, refl, sym, ap, _∙_}
+use native.Mathlib.Nat.{sub-zero}
+use lib.ListN.{length, drop}
+use Rattle.state.specs.Maps.{any, contains, same, starts-with}
+use Rattle.fields.specs.Codes.{Code, codes, skip, codeOf, codesOf}
+use Rattle.fields.specs.Rows.{text-here}
+use Rattle.fields.specs.Walks.{placeOf, drop-within}
+use Rattle.sets.specs.Sets.{set-of}
+use Rattle.tables.specs.Seek.{rows-at}
+use Rattle.scans.specs.Scans.{namesAt, before-manifest-key, before-namespace, usesAt}
+use Rattle.scans.specs.ScanLaws.{after-record}
+
+module _ (T : List ℕ → Bool) (cs : List Code) (s : List ℕ) (n i p : ℕ) where
+  abbrev left-over : Bool
+  left-over = any T (rows-at cs (n - i) (drop p s))
+
+  pub scan-end : n ≤ i → left-over ≡ false
+  unfolding any rows-at
+  scan-end h = let z : n - i ≡ 0 = omega arith in rw z
+
+  next-row : i < n → left-over ≡ T (drop p s) || any T (rows-at cs (n - (i + 1)) (skip 0 cs (drop p s)))
+  unfolding any rows-at
+  next-row h = let z : n - i ≡ suc (n - (i + 1)) = omega arith in rw z
+
+  pub scan-here : i < n → T (drop p s) ≡ true → left-over ≡ true
+  scan-here h t = next-row h ∙ ap (λ (b : Bool). b || any T (rows-at cs (n - (i + 1)) (skip 0 cs (drop p s)))) t
+
+  pub scan-on : (q : ℕ) → i < n → T (drop p s) ≡ false → q ≡ placeOf s (skip 0 cs (drop p s)) → left-over ≡ any T (rows-at cs (n - (i + 1)) (drop q s))
+  scan-on q h t e =
+      next-row h ∙ ap (λ (b : Bool). b || any T (rows-at cs (n - (i + 1)) (skip 0 cs (drop p s)))) t
+      ∙ ap (λ (l : List ℕ). any T (rows-at cs (n - (i + 1)) l)) (sym (ap (λ (j : ℕ). drop j s) e ∙ after-record cs s p))
+
+pub scan-start : (T : List ℕ → Bool) (cs : List Code) (s : List ℕ) (n at p : ℕ) → p ≡ min at (length s) → any T (rows-at cs n (drop at s)) ≡ any T (rows-at cs (n - 0) (drop p s))
+scan-start T cs s n at p e =
+    ap (λ (k : ℕ). any T (rows-at cs k (drop at s))) (sym (sub-zero n))
+    ∙ ap (λ (l : List ℕ). any T (rows-at cs (n - 0) l)) (sym (ap (λ (j : ℕ). drop j s) e ∙ drop-within s at))
+
+-- what was found of the set after some fields
+pub names-told : (cs : List Code) (k s : List ℕ) (p a : ℕ) (b c : Bool) → a ≡ placeOf s (skip 0 cs (drop p s)) → b ≡ contains k (set-of (drop a s)) → b ≡ c → namesAt cs k (drop p s) ≡ c
+unfolding namesAt
+names-told cs k s p a b c e h g = sym (ap (λ (l : List ℕ). contains k (set-of l)) (ap (λ (j : ℕ). drop j s) e ∙ after-record cs s p)) ∙ sym h ∙ g
+
+-- what was found of the texts of a job
+manifest-codes : codesOf (64 ∷ 8 ∷ 8 ∷ 8 ∷ 8 ∷ 9 ∷ []) ≡ codes before-manifest-key
+unfolding codesOf codeOf codes
+manifest-codes = refl
+
+namespace-codes : codesOf (64 ∷ 8 ∷ 8 ∷ 8 ∷ 8 ∷ 9 ∷ 128 ∷ 8 ∷ 64 ∷ 64 ∷ 8 ∷ 8 ∷ []) ≡ codes before-namespace
+unfolding codesOf codeOf codes
+namespace-codes = refl
+
+text-told : (cs ds : List Code) (s t : List ℕ) (p a : ℕ) → cs ≡ ds → a ≡ placeOf s (skip 0 cs (drop p s)) → t ≡ text-here (drop a s) → t ≡ text-here (skip 0 ds (drop p s))
+text-told cs ds s t p a w e h = h ∙ ap (λ (l : List ℕ). text-here l) (ap (λ (j : ℕ). drop j s) (e ∙ ap (λ (us : List Code). placeOf s (skip 0 us (drop p s))) w) ∙ after-record ds s p)
+
+module _ (k s t : List ℕ) (p a : ℕ) (b : Bool) (e : a ≡ placeOf s (skip 0 (codesOf (64 ∷ 8 ∷ 8 ∷ 8 ∷ 8 ∷ 9 ∷ [])) (drop p s))) (h : t ≡ text-here (drop a s)) (f : b ≡ same t k) where
+  manifest-told : b ≡ same (text-here (skip 0 (codes before-manifest-key) (drop p s))) k
+  manifest-told = f ∙ ap (λ (u : List ℕ). same u k) (text-told _ _ s t p a manifest-codes e h)
+
+  pub uses-first : b ≡ true → true ≡ usesAt k (drop p s)
+  unfolding usesAt
+  uses-first g = sym (ap (λ (c : Bool). c || starts-with k (text-here (skip 0 (codes before-namespace) (drop p s)))) (sym manifest-told ∙ g))
+
+  pub uses-second : b ≡ false → (t′ : List ℕ) (a′ : ℕ) (b′ : Bool) → a′ ≡ placeOf s (skip 0 (codesOf (64 ∷ 8 ∷ 8 ∷ 8 ∷ 8 ∷ 9 ∷ 128 ∷ 8 ∷ 64 ∷ 64 ∷ 8 ∷ 8 ∷ [])) (drop p s))
+      → t′ ≡ text-here (drop a′ s) → b′ ≡ starts-with k t′ → b′ ≡ usesAt k (drop p s)
+  unfolding usesAt
+  uses-second g t′ a′ b′ e′ h′ f′ =
+      f′ ∙ ap (λ (u : List ℕ). starts-with k u) (text-told _ _ s t′ p a′ namespace-codes e′ h′)
+      ∙ sym (ap (λ (c : Bool). c || starts-with k (text-here (skip 0 (codes before-namespace) (drop p s)))) (sym manifest-told ∙ g))

@@ -1,0 +1,149 @@
+-- On the bytes of a state's tables, what the rows say of a key is what the maps say.
+use Prim.Native.Nat.{ℕ, suc}
+use mathlib.Core.List.{List, [], _∷_, _++_, append-assoc, append-nil}
+use mathlib.Core.Bool.{Bool, _||_}
+use mathlib.Core.Path.{_≡_, refl, sym, ap, _∙_}
+use lib.ListN.{length, drop}
+use lib.Seq.{take-append-seam}
+use Rattle.state.specs.Maps.{Text, Map, Entry, _⟼_, key-of, same, starts-with, contains, any, any-value, Every}
+use Rattle.state.specs.Records.{PreparedPublication, SnapshotLeaseToken, CollectionJobToken, State, names}
+use Rattle.fields.specs.Format.{Field, option, set, _▹_, El, enc, enc-text, all}
+use Rattle.fields.specs.Codes.{Code, codes, skip, set-most, key-limit, codeOf, codesOf}
+use Rattle.fields.specs.Rows.{text-here}
+use Rattle.fields.specs.Walks.{placeOf, rest-place, rest-trans, rest-drop}
+use Rattle.tables.specs.Skips.{skip-rest}
+use Rattle.sets.specs.Sets.{texts-of, set-of}
+use Rattle.tables.specs.Seek.{rows-at}
+use Rattle.tables.specs.SeekLaws.{Hopped, tails, rows-are}
+use Rattle.image.specs.Body.{row}
+use Rattle.image.specs.Shapes.{short, u64, name, key, keys, position, reference, prepared, lease, job, reference-parts, prepared-parts, position-parts}
+use Rattle.image.specs.Layout.{encodeImage, Formed}
+use Rattle.image.specs.Tables.{intent-row, lease-row, job-row}
+use Rattle.image.specs.ImageParts.{intents-at, leases-at, jobs-at, from-roots, from-jobs, at-intents, at-leases, at-jobs}
+use Rattle.image.specs.Stored.{intents-stored, leases-stored, jobs-stored}
+use Rattle.next.specs.Peeks.{hop-text, skip-to}
+use Rattle.scans.specs.Scans.{namesAt, before-manifest-key, before-namespace, usesAt}
+
+-- what is left at the place of a record's end
+pub after-record : (cs : List Code) (s : List ℕ) (p : ℕ) → drop (placeOf s (skip 0 cs (drop p s))) s ≡ skip 0 cs (drop p s)
+after-record cs s p = rest-place (rest-trans (rest-drop p s) (skip-rest 0 cs (drop p s)))
+
+-- ---- texts and sets that were written
+
+pub text-there : (t r : List ℕ) → text-here (enc-text t ++ r) ≡ t
+unfolding text-here enc-text
+text-there t r = take-append-seam t r
+
+texts-there : (ts : List Text) (r : List ℕ) → texts-of (length ts) (all enc-text ts ++ r) ≡ ts
+unfolding texts-of all
+texts-there [] r = refl
+texts-there (t ∷ ts) r =
+    let u : List ℕ = all enc-text ts ++ r in
+    ap (texts-of (suc (length ts))) (append-assoc (enc-text t) (all enc-text ts) r)
+    ∙ (λ i. text-there t u i ∷ texts-of (length ts) (hop-text t u i))
+    ∙ ap (λ (us : List Text). t ∷ us) (texts-there ts r)
+
+set-there : (m n : ℕ) (ts : List Text) (r : List ℕ) → set-of (enc (set m n) ts ++ r) ≡ ts
+unfolding enc set-of
+set-there m n ts r = texts-there ts r
+
+-- ---- rows
+
+any-rows : {A : Type 0} (cs : List Code) (write : Entry A → List ℕ) (T : List ℕ → Bool) (P : A → Bool) → ((k : Text) (v : A) (r : List ℕ) → T (write (k ⟼ v) ++ r) ≡ P v)
+    → (m : Map A) (r : List ℕ) → any T (tails cs write key-of m r) ≡ any-value P m
+unfolding any any-value tails
+any-rows cs write T P h [] r = refl
+any-rows cs write T P h ((k ⟼ v) ∷ m) r = λ i. h k v (all write m ++ r) i || any-rows cs write T P h m r i
+
+any-here : {A : Type 0} (cs : List Code) (write : Entry A → List ℕ) (T : List ℕ → Bool) (P : A → Bool) → ((k : Text) (v : A) (r : List ℕ) → T (write (k ⟼ v) ++ r) ≡ P v)
+    → (x y : List ℕ) → y ≡ x → (p : ℕ) (m : Map A) (r : List ℕ) → drop p y ≡ all write m ++ r → Every (Hopped cs write key-of) m → any T (rows-at cs (length m) (drop p x)) ≡ any-value P m
+any-here cs write T P h x y e p m r d hops =
+    ap (λ (l : List ℕ). any T (rows-at cs (length m) l)) (ap (drop p) (sym e) ∙ d)
+    ∙ ap (any T) (rows-are cs write key-of m r hops)
+    ∙ any-rows cs write T P h m r
+
+-- a set after some fields
+names-row : (f : Field) (v : El f) (m n : ℕ) (ts : List Text) (k : Text) (r : List ℕ) → namesAt (codes f) k (enc f v ++ (enc (set m n) ts ++ r)) ≡ contains k ts
+unfolding namesAt
+names-row f v m n ts k r = ap (λ (l : List ℕ). contains k (set-of l)) (skip-to f v (enc (set m n) ts ++ r)) ∙ ap (contains k) (set-there m n ts r)
+
+-- ---- intents: the set stands after id and owner
+
+abbrev before-intent : Field
+before-intent = name ▹ u64
+
+intent-before : codesOf (64 ∷ 8 ∷ []) ≡ codes before-intent
+unfolding codesOf codeOf codes
+intent-before = refl
+
+seam : (f g : Field) (v : El (f ▹ g)) (r : List ℕ) → enc (f ▹ g) v ++ r ≡ enc f (v .0) ++ (enc g (v .1) ++ r)
+unfolding enc
+seam f g v r = append-assoc (enc f (v .0)) (enc g (v .1)) r
+
+intent-names : (k j : Text) (p : PreparedPublication) (r : List ℕ) → namesAt (codes before-intent) k (intent-row (j ⟼ p) ++ r) ≡ contains k (p .intent .object-keys)
+intent-names k j p r =
+    let g = reference ▹ name ▹ option reference in
+    let b = enc g (prepared-parts p .1 .1) in
+    let e : intent-row (j ⟼ p) ++ r ≡ enc before-intent (j, p .owner-generation) ++ (enc keys (p .intent .object-keys) ++ (b ++ r)) =
+    seam name prepared (j, prepared-parts p) r
+    ∙ ap (λ (l : List ℕ). enc name j ++ l) (seam u64 (keys ▹ g) (prepared-parts p) r ∙ ap (λ (l : List ℕ). enc u64 (p .owner-generation) ++ l) (seam keys g (prepared-parts p .1) r))
+    ∙ sym (seam name u64 (j, p .owner-generation) (enc keys (p .intent .object-keys) ++ (b ++ r))) in
+    ap (namesAt (codes before-intent) k) e ∙ names-row before-intent (j, p .owner-generation) set-most key-limit (p .intent .object-keys) k (b ++ r)
+
+-- ---- leases: the set stands after the closure's manifest
+
+abbrev before-closure-keys : Field
+before-closure-keys = name ▹ name ▹ u64 ▹ u64 ▹ name ▹ name ▹ u64 ▹ reference
+
+lease-before : codesOf (64 ∷ 64 ∷ 8 ∷ 8 ∷ 64 ∷ 64 ∷ 8 ∷ 9 ∷ 128 ∷ 8 ∷ 64 ∷ []) ≡ codes before-closure-keys
+unfolding codesOf codeOf codes
+lease-before = refl
+
+lease-names : (k j : Text) (t : SnapshotLeaseToken) (r : List ℕ) → namesAt (codes before-closure-keys) k (lease-row (j ⟼ t) ++ r) ≡ names (t .closure) k
+unfolding enc
+lease-names k j t r =
+    let v : El before-closure-keys = (t .lease-id, (t .tenant-id, (t .snapshot-version, (t .lease-epoch, (t .owner, (t .purpose, (t .deadline-tick, reference-parts (t .closure .manifest)))))))) in
+    let b = enc (u64 ▹ position) (t .owner-generation, position-parts (t .authority-position)) in
+    let e : lease-row (j ⟼ t) ++ r ≡ enc before-closure-keys v ++ (enc keys (t .closure .object-keys) ++ (b ++ r)) = simp append-assoc in
+    ap (namesAt (codes before-closure-keys) k) e ∙ names-row before-closure-keys v set-most key-limit (t .closure .object-keys) k (b ++ r)
+
+-- ---- jobs
+
+abbrev pub uses : Text → CollectionJobToken → Bool
+uses k job = same (job .input-manifest .key) k || starts-with k (job .output-namespace)
+
+text-row : (f : Field) (v : El f) (t r : List ℕ) → text-here (skip 0 (codes f) (enc f v ++ (enc-text t ++ r))) ≡ t
+text-row f v t r = ap text-here (skip-to f v (enc-text t ++ r)) ∙ text-there t r
+
+job-uses : (k j : Text) (t : CollectionJobToken) (r : List ℕ) → usesAt k (job-row (j ⟼ t) ++ r) ≡ uses k t
+unfolding enc usesAt
+job-uses k j t r =
+    let m : El before-manifest-key = (t .job-id, (t .owner-generation, (position-parts (t .authority-position), (t .frozen-floor, t .input-manifest .kind)))) in
+    let b = enc (u64 ▹ name ▹ name ▹ u64 ▹ u64 ▹ key) (t .input-manifest .length, (t .input-manifest .sha256, (t .destination-root, (t .range-map-epoch, (t .expected-collected-through, t .output-namespace))))) in
+    let e : job-row (j ⟼ t) ++ r ≡ enc before-manifest-key m ++ (enc-text (t .input-manifest .key) ++ (b ++ r)) = simp append-assoc in
+    let n : El before-namespace = (t .job-id, (t .owner-generation, (position-parts (t .authority-position), (t .frozen-floor, (reference-parts (t .input-manifest), (t .destination-root, (t .range-map-epoch, t .expected-collected-through))))))) in
+    let h : job-row (j ⟼ t) ++ r ≡ enc before-namespace n ++ (enc-text (t .output-namespace) ++ r) = simp append-assoc in
+    let a : text-here (skip 0 (codes before-manifest-key) (job-row (j ⟼ t) ++ r)) ≡ t .input-manifest .key =
+    ap (λ (l : List ℕ). text-here (skip 0 (codes before-manifest-key) l)) e ∙ text-row before-manifest-key m (t .input-manifest .key) (b ++ r) in
+    let c : text-here (skip 0 (codes before-namespace) (job-row (j ⟼ t) ++ r)) ≡ t .output-namespace =
+    ap (λ (l : List ℕ). text-here (skip 0 (codes before-namespace) l)) h ∙ text-row before-namespace n (t .output-namespace) r in
+    λ i. same (a i) k || starts-with k (c i)
+
+-- THE SCANS OF A STATE'S TABLES
+module _ (s : State) (x : List ℕ) (e : encodeImage s ≡ x) (f : Formed s) (k : Text) where
+  pub intents-name : any (namesAt (codesOf (64 ∷ 8 ∷ [])) k) (rows-at (codes (row short prepared)) (length (s .intents)) (drop (intents-at s) x))
+      ≡ any-value (λ prepared. contains k (prepared .intent .object-keys)) (s .intents)
+  intents-name =
+      ap (λ (cs : List Code). any (namesAt cs k) (rows-at (codes (row short prepared)) (length (s .intents)) (drop (intents-at s) x))) intent-before
+      ∙ any-here (codes (row short prepared)) intent-row (namesAt (codes before-intent) k) (λ p. contains k (p .intent .object-keys)) (intent-names k) x (encodeImage s) e (intents-at s) (s .intents) (from-roots s) (at-intents s) (intents-stored s f .hopped)
+
+  pub leases-name : any (namesAt (codesOf (64 ∷ 64 ∷ 8 ∷ 8 ∷ 64 ∷ 64 ∷ 8 ∷ 9 ∷ 128 ∷ 8 ∷ 64 ∷ [])) k) (rows-at (codes lease) (length (s .leases)) (drop (leases-at s) x))
+      ≡ any-value (λ lease. names (lease .closure) k) (s .leases)
+  leases-name =
+      ap (λ (cs : List Code). any (namesAt cs k) (rows-at (codes lease) (length (s .leases)) (drop (leases-at s) x))) lease-before
+      ∙ any-here (codes lease) lease-row (namesAt (codes before-closure-keys) k) (λ t. names (t .closure) k) (lease-names k) x (encodeImage s) e (leases-at s) (s .leases) (from-jobs s) (at-leases s) (leases-stored s f .hopped)
+
+  pub jobs-use : any (usesAt k) (rows-at (codes job) (length (s .collection-jobs)) (drop (jobs-at s) x)) ≡ any-value (uses k) (s .collection-jobs)
+  unfolding all
+  jobs-use =
+      any-here (codes job) job-row (usesAt k) (uses k) (job-uses k) x (encodeImage s) e (jobs-at s) (s .collection-jobs) [] (at-jobs s ∙ sym (append-nil (from-jobs s))) (jobs-stored s f .hopped)
