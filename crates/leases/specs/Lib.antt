@@ -3,3 +3,5 @@ pub mod Oldest
 pub mod Leased
 pub mod Placed
 pub mod Release
+pub mod Runs
+pub mod Renew

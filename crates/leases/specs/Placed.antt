@@ -7,7 +7,7 @@ use mathlib.Core.Path.{_≡_, sym, ap, _∙_, subst}
 use lib.ListN.{length, take, drop, length-append}
 use Rattle.parts.specs.Digits.{value}
 use Rattle.parts.specs.Gather.{gatherOf, run}
-use Rattle.state.specs.Maps.{Text, Map, Entry, _⟼_, lookup, remove}
+use Rattle.state.specs.Maps.{Text, Map, Entry, _⟼_, lookup, insert, remove}
 use Rattle.state.specs.Places.{ahead, at, behind}
 use Rattle.state.specs.Records.{SnapshotLeaseToken, State}
 use Rattle.fields.specs.Format.{all, enc, enc-text}
@@ -17,14 +17,14 @@ use Rattle.tables.specs.declared.Place.{Place}
 use Rattle.image.specs.Shapes.{lease}
 use Rattle.image.specs.Layout.{encodeImage, Formed}
 use Rattle.image.specs.Opened.{contentsOf}
-use Rattle.image.specs.Tables.{lease-row, bytes-remove}
+use Rattle.image.specs.Tables.{lease-row, bytes-split, bytes-insert, bytes-remove}
 use Rattle.image.specs.ImageParts.{leases-bytes, intents-at, leases-at, from-jobs}
 use Rattle.image.specs.Stored.{leases-stored}
 use Rattle.image.specs.declared.Contents.{Contents}
 use Rattle.machine.specs.Actions.{Rule, find-or, decide}
 use Rattle.next.specs.Kept.{tables-here, length-here, before-leases, leases-seam}
-use Rattle.next.specs.Edit.{lease-codes, none-there, some-there, from-place, run-ahead, run-behind, remove-size, remove-count}
-use Rattle.leases.specs.Rows.{before-epoch, epoch-row}
+use Rattle.next.specs.Edit.{lease-codes, none-there, some-there, from-place, run-ahead, run-behind, remove-size, remove-count, insert-over}
+use Rattle.leases.specs.Rows.{before-epoch, before-deadline, epoch-row, deadline-row}
 
 long : (e : Entry SnapshotLeaseToken) → 1 ≤ length (lease-row e)
 unfolding enc enc-text
@@ -87,6 +87,27 @@ module _ (s : State) (x : List ℕ) (e : encodeImage s ≡ x) (w : Formed s) (c 
     unfolding codesOf codeOf
     epoch-there = ap (λ (l : List ℕ). value (take 8 (skip 0 before-epoch l))) row-there ∙ epoch-row v rest (leases-stored s w .found k v looked .1 .1 .1 .1 .0)
 
+    pub deadline-there : value (take 8 (skip 0 (codesOf (64 ∷ 64 ∷ 8 ∷ 8 ∷ 64 ∷ 64 ∷ [])) (drop (place .start) x))) ≡ v .deadline-tick
+    unfolding codesOf codeOf
+    deadline-there = ap (λ (l : List ℕ). value (take 8 (skip 0 before-deadline l))) row-there ∙ deadline-row v rest (leases-stored s w .found k v looked .1 .1 .1 .1 .1 .1 .1 .0)
+
+    -- another in its place
+    module _ (u : SnapshotLeaseToken) where
+      pub replaced-count : length (insert k u m) ≡ c .leases .count
+      replaced-count = insert-over k m u v there ∙ ap (λ (d : Contents). d .leases .count) (sym o)
+
+      pub replaced-size : length (lease-row (k ⟼ u)) ≡ length (lease-row (k ⟼ v)) → length (all lease-row (insert k u m)) ≡ c .leases .size
+      unfolding all
+      replaced-size h =
+          let a : List ℕ = all lease-row (ahead k m) in
+          let b : List ℕ = all lease-row (behind k m) in
+          let new : length (all lease-row (insert k u m)) ≡ length a + (length (lease-row (k ⟼ u)) + length b) =
+          ap length (bytes-insert lease-row k u m) ∙ length-append a (lease-row (k ⟼ u) ++ b) ∙ ap (λ (n : ℕ). length a + n) (length-append (lease-row (k ⟼ u)) b) in
+          let old : length (all lease-row m) ≡ length a + (length (lease-row (k ⟼ v)) + length b) =
+          ap length (bytes-split lease-row k m ∙ ap (λ (l : Map SnapshotLeaseToken). a ++ (all lease-row l ++ b)) there ∙ ap (λ (l : List ℕ). a ++ (l ++ b)) (append-nil (lease-row (k ⟼ v))))
+          ∙ length-append a (lease-row (k ⟼ v) ++ b) ∙ ap (λ (n : ℕ). length a + n) (length-append (lease-row (k ⟼ v)) b) in
+          new ∙ ap (λ (n : ℕ). length a + (n + length b)) h ∙ sym old ∙ ap (λ (d : Contents). d .leases .size) (sym o)
+
     pub removed-count : length (remove k m) ≡ c .leases .count - 1
     removed-count = remove-count k m v (leases-stored s w .ascending) there ∙ ap (λ (d : Contents). d .leases .count - 1) (sym o)
 
@@ -94,6 +115,23 @@ module _ (s : State) (x : List ℕ) (e : encodeImage s ≡ x) (w : Formed s) (c 
   removed-size =
       remove-size (codes lease) lease-row x (intents-at s) (leases-at s) front m (from-jobs s) here starts low (leases-stored s w .hopped) k place found (leases-stored s w .ascending)
       ∙ ap (λ (d : Contents). d .leases .size - (place .end - place .start)) (sym o)
+
+  -- THE TABLES WITH A LEASE IN ITS PLACE: parts that gather to its row
+  pub placed-tables : (q parts : List ℕ) (u : SnapshotLeaseToken) → ((ps : List ℕ) → gatherOf x q (parts ++ ps) ≡ lease-row (k ⟼ u) ++ gatherOf x q ps)
+      → (n : ℕ) → n ≡ place .start - c .intents .at
+      → gatherOf x q (0 ∷ c .intents .at ∷ n ∷ (parts ++ 0 ∷ place .end ∷ length x ∷ [])) ≡ before-leases s (all lease-row (insert k u m) ++ from-jobs s)
+  placed-tables q parts u g n h =
+      let a : List ℕ = all lease-row (ahead k m) in
+      let b : List ℕ = all lease-row (behind k m) in
+      let r : List ℕ = from-jobs s in
+      let t : List ℕ = lease-row (k ⟼ u) in
+      (λ i. run x (o i .intents .at) ((h ∙ ap (λ (d : Contents). place .start - d .intents .at) o) i) ++ g (0 ∷ place .end ∷ length x ∷ []) i)
+      ∙ ap (λ (l : List ℕ). l ++ (t ++ (run x (place .end) (length x) ++ [])))
+      (run-ahead (codes lease) lease-row x (intents-at s) (leases-at s) front m r here starts low (leases-stored s w .hopped) k place found)
+      ∙ ap (λ (l : List ℕ). (front ++ a) ++ (t ++ l)) (append-nil (run x (place .end) (length x)) ∙ run-behind (codes lease) lease-row x (intents-at s) (leases-at s) front m r here starts low (leases-stored s w .hopped) k place found)
+      ∙ append-assoc front a (t ++ (b ++ r))
+      ∙ ap (λ (l : List ℕ). front ++ l) (ap (λ (l : List ℕ). a ++ l) (sym (append-assoc t b r)) ∙ sym (append-assoc a (t ++ b) r) ∙ ap (λ (l : List ℕ). l ++ r) (sym (bytes-insert lease-row k u m)))
+      ∙ sym (leases-seam s [] (all lease-row (insert k u m) ++ r))
 
   -- THE TABLES WITHOUT IT
   pub removed-tables : (q : List ℕ) → gatherOf x q (0 ∷ c .intents .at ∷ (place .start - c .intents .at) ∷ 0 ∷ place .end ∷ length x ∷ []) ≡ before-leases s (all lease-row (remove k m) ++ from-jobs s)

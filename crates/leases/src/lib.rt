@@ -1,4 +1,4 @@
-// The actions on one lease by its id: release.
+// The actions on one lease by its id: renew and release.
 ghost use mathlib.Core.Bool.{cond};
 ghost use mathlib.Core.Path.{_≡_};
 ghost use Prim.Native.Nat.{_+_, _-_, _≤_, min};
@@ -13,6 +13,7 @@ ghost use Rattle.requests.specs.declared.PublicationAction.{PublicationAction};
 ghost use Rattle.next.specs.Call.{Ready};
 ghost use Rattle.leases.specs.Oldest.{named, oldestKept};
 ghost use Rattle.leases.specs.Leased.{withLeases};
+ghost use Rattle.leases.specs.Runs.{runsOf};
 use image::Contents;
 use image::Scalars;
 use image::Table;
@@ -20,12 +21,41 @@ use parts::Applied;
 use requests::AuthorityContext;
 use requests::PublicationAuthorityFaults;
 use requests::ReleaseLease;
+use requests::RenewLease;
 
 // The number that stands in the record at a place behind some of its fields.
 fn number_after(before: &[u8], s: &[u8], at: usize) -> u64
     ensures { λ r. ⌜ r ≡ value (take 8 (skip 0 (codesOf (now (before .entry))) (drop at (now (s .entry))))) ⌝ }
 {
     parts::u64_at(s, tables::skip_record(before, s, at))
+}
+
+// What a renewal keeps of a record: so many bytes up to its epoch; from there up to the deadline; and from there up to
+// the generation.
+struct Runs {
+    to_epoch: usize,
+    from_epoch: usize,
+    to_deadline: usize,
+    from_deadline: usize,
+    to_generation: usize,
+}
+
+fn runs_at(s: &[u8], at: usize) -> Runs
+    ensures { λ r. ⌜ r ≡ runsOf (now (s .entry)) at ⌝ }
+{
+    let before_epoch = [64u8, 64, 8];
+    let before_deadline = [64u8, 64, 8, 8, 64, 64];
+    let before_generation = [64u8, 64, 8, 8, 64, 64, 8, 9, 128, 8, 64, 10];
+    let epoch = tables::skip_record(&before_epoch, s, at);
+    let deadline = tables::skip_record(&before_deadline, s, at);
+    let generation = tables::skip_record(&before_generation, s, at);
+    Runs {
+        to_epoch: parts::less(epoch, at),
+        from_epoch: epoch + 8,
+        to_deadline: parts::less(deadline, epoch + 8),
+        from_deadline: deadline + 8,
+        to_generation: parts::less(generation, deadline + 8),
+    }
 }
 
 // The smaller of m and the version, or m where the lease is gone.
@@ -109,6 +139,118 @@ fn with_leases(
         },
         jobs,
     }
+}
+
+pub fn renew_lease(
+    image: &[u8],
+    c: Contents,
+    request: &[u8],
+    x: AuthorityContext,
+    f: PublicationAuthorityFaults,
+    a: RenewLease,
+    next: &mut [u8],
+    outcome: &mut [u8],
+) -> Applied
+    requires { ⌜ Ready (now image) c (now request) (record { context = x; faults = f; action = PublicationAction.RenewLease a }) ⌝ }
+    ensures { λ r. ⌜ Gave (applyBytes (now (image .entry)) (now (request .entry)) (length (now (next .entry))) (length (now (outcome .entry)))) (now (next .entry)) (now (outcome .entry)) r (now (next .exit)) (now (outcome .exit)) ⌝ }
+{
+    let n = c.scalars;
+    let leases = c.leases;
+    let t = a.lease_id;
+    let id = parts::clip(request, t.at, t.len);
+    let p = tables::locate(&image::LEASE, image, leases.at, leases.count, id);
+    if p.end <= p.start {
+        return parts::refuse(22);
+    }
+    let before_epoch = [64u8, 64, 8];
+    let held = number_after(&before_epoch, image, p.start);
+    if held != a.expected_lease_epoch {
+        return parts::refuse(23);
+    }
+    if a.new_deadline_tick <= n.lease_clock_tick {
+        return parts::refuse(24);
+    }
+    let before_deadline = [64u8, 64, 8, 8, 64, 64];
+    let deadline = number_after(&before_deadline, image, p.start);
+    if a.new_deadline_tick <= deadline {
+        return parts::refuse(24);
+    }
+    let epoch = next::up(n.lease_epoch);
+    let root_epoch = next::up_unless(f.omit_lease_root_epoch, n.root_intent_epoch);
+    let r = runs_at(image, p.start);
+    let c2 = with_leases(
+        c,
+        x,
+        root_epoch,
+        n.policy_floor,
+        n.minimum_readable_version,
+        n.lease_clock_tick,
+        epoch,
+        leases.size,
+        leases.count,
+    );
+    let body = [
+        0,
+        c.intents.at,
+        parts::less(p.start, c.intents.at),
+        0,
+        p.start,
+        r.to_epoch,
+        2,
+        epoch as usize,
+        8,
+        0,
+        r.from_epoch,
+        r.to_deadline,
+        2,
+        a.new_deadline_tick as usize,
+        8,
+        0,
+        r.from_deadline,
+        r.to_generation,
+        2,
+        x.generation as usize,
+        8,
+        2,
+        x.position.term as usize,
+        8,
+        2,
+        x.position.index as usize,
+        8,
+        0,
+        p.end,
+        image.len(),
+    ];
+    let told = [
+        2,
+        3,
+        1,
+        0,
+        p.start,
+        r.to_epoch,
+        2,
+        epoch as usize,
+        8,
+        0,
+        r.from_epoch,
+        r.to_deadline,
+        2,
+        a.new_deadline_tick as usize,
+        8,
+        0,
+        r.from_deadline,
+        r.to_generation,
+        2,
+        x.generation as usize,
+        8,
+        2,
+        x.position.term as usize,
+        8,
+        2,
+        x.position.index as usize,
+        8,
+    ];
+    next::emit(0, c2, image, request, &body, &told, next, outcome)
 }
 
 pub fn release_lease(
