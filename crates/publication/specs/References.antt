@@ -2,23 +2,28 @@
 -- are absent or both hold equal references.
 use Prim.Native.Nat.{ℕ, suc, _+_, _-_, _≤_}
 use native.Mathlib.Omega.{arith}
-use mathlib.Core.List.{List, [], _++_, append-nil}
+use mathlib.Core.List.{List, [], _∷_, _++_, append-nil}
 use mathlib.Core.Option.{Option, none, some}
-use mathlib.Core.Path.{_≡_, refl}
-use lib.ListN.{length, drop}
-use lib.Seq.{drop-append-seam, drop-nil}
+use mathlib.Core.Path.{_≡_, refl, sym, ap, _∙_}
+use lib.ListN.{length, take, drop, length-append, length-drop}
+use lib.Seq.{drop-append-seam, drop-nil, take-append-seam}
 use Rattle.text.specs.Same.{sameOf}
 use Rattle.state.specs.Maps.{Text, Map, Entry, _⟼_, lookup, same-option}
 use Rattle.state.specs.Sorted.{Ascending}
 use Rattle.state.specs.Places.{at}
 use Rattle.state.specs.Records.{ObjectReference, reference-eq}
 use Rattle.fields.specs.Format.{Field, El, enc, enc-text, enc-option, option, all, Within}
+use Rattle.fields.specs.Codes.{codes, skip, codeOf, codesOf}
+use Rattle.fields.specs.Walks.{placeOf}
+use Rattle.parts.specs.Gather.{run}
 use Rattle.image.specs.Body.{row}
 use Rattle.image.specs.Shapes.{short, reference, reference-parts, each-option}
 use Rattle.image.specs.Layout.{row-of}
 use Rattle.image.specs.Tables.{reference-row}
 use Rattle.image.specs.Stored.{Stored}
 use Rattle.image.specs.SameBytes.{same-reference}
+use Rattle.next.specs.Kept.{run-rest, after-seam}
+use Rattle.next.specs.Peeks.{skip-to}
 use Rattle.next.specs.Edit.{Standing, absent, present, standing}
 
 abbrev pub held : Option ObjectReference → List ℕ
@@ -67,3 +72,32 @@ held-within m st k = go (lookup k m) refl
 pub reference-long : (e : Entry ObjectReference) → 1 ≤ length (reference-row e)
 unfolding enc enc-text
 reference-long (k ⟼ v) = omega arith
+
+-- ---- in a request: an option of a reference, and after it a reference to the end
+
+abbrev pub optionAt : List ℕ → ℕ → List ℕ
+optionAt s at = take (placeOf s (skip 0 (codesOf (15 ∷ 9 ∷ 128 ∷ 8 ∷ 64 ∷ [])) (drop at s)) - at) (drop at s)
+
+option-codes : codesOf (15 ∷ 9 ∷ 128 ∷ 8 ∷ 64 ∷ []) ≡ codes (option reference)
+unfolding codesOf codeOf codes
+option-codes = refl
+
+module _ (q : List ℕ) (at : ℕ) (o : Option ObjectReference) (v : ObjectReference) (here : drop at q ≡ enc (option reference) (each-option reference-parts o) ++ enc reference (reference-parts v)) where
+  abbrev option-bytes : List ℕ
+  option-bytes = enc (option reference) (each-option reference-parts o)
+
+  pub lengths : length q - at ≡ length option-bytes + length (held (some v))
+  lengths = sym (length-drop at q) ∙ ap length here ∙ length-append option-bytes (held (some v))
+
+  pub option-here : optionAt q at ≡ option-bytes
+  option-here =
+      let z : skip 0 (codesOf (15 ∷ 9 ∷ 128 ∷ 8 ∷ 64 ∷ [])) (drop at q) ≡ held (some v) =
+      (λ i. skip 0 (option-codes i) (here i)) ∙ skip-to (option reference) (each-option reference-parts o) (held (some v)) in
+      let n : placeOf q (held (some v)) - at ≡ length option-bytes = omega (arith, lengths) in
+      (λ i. take (placeOf q (z i) - at) (here i)) ∙ ap (λ (k : ℕ). take k (option-bytes ++ held (some v))) n ∙ take-append-seam option-bytes (held (some v))
+
+  pub last-here : (m : ℕ) → m ≡ at + length option-bytes → run q m (length q) ≡ held (some v)
+  last-here m e = run-rest q (held (some v)) m (length q) (after-seam q option-bytes (held (some v)) at m here e) (omega arith)
+
+  pub last-length : (m : ℕ) → m ≡ at + length option-bytes → length q - m ≡ length (held (some v))
+  last-length m e = omega (arith, lengths)

@@ -16,9 +16,7 @@ use Rattle.fields.specs.Codes.{codesOf}
 use Rattle.tables.specs.Seek.{seek, placed}
 use Rattle.tables.specs.declared.Place.{Place}
 use Rattle.image.specs.Tables.{reference-row}
-use Rattle.image.specs.ImageParts.{intents-bytes, roots-bytes, pins-bytes}
 use Rattle.image.specs.Stored.{pins-stored}
-use Rattle.image.specs.Opened.{contentsOf}
 use Rattle.image.specs.declared.Table.{Table}
 use Rattle.image.specs.declared.Contents.{Contents}
 use Rattle.machine.specs.Next.{unpinned}
@@ -35,15 +33,8 @@ use Rattle.next.specs.Shows.{Shown, Shows}
 use Rattle.edits.specs.Changes.{afterRemove, afterChange}
 use Rattle.edits.specs.ChangeLaws.{small-change, shows-change}
 use Rattle.publication.specs.References.{held, same-held, held-within}
+use Rattle.publication.specs.Stays.{stays}
 use Rattle.publication.specs.Pins.{pin-held, unpinned-shown}
-
--- the tables that stay
-pub stays : (s : State) (c : Contents) → c ≡ contentsOf s → Shown (c .intents) (intents-bytes s) (length (s .intents)) × Shown (c .roots) (roots-bytes s) (length (s .roots)) × Shown (c .pins) (pins-bytes s) (length (s .pins))
-stays s c o = (
-  record { size = ap (λ (d : Contents). d .intents .size) o; count = ap (λ (d : Contents). d .intents .count) o },
-  record { size = ap (λ (d : Contents). d .roots .size) o; count = ap (λ (d : Contents). d .roots .count) o },
-  record { size = ap (λ (d : Contents). d .pins .size) o; count = ap (λ (d : Contents). d .pins .count) o },
-)
 
 module _ {x : List ℕ} {c : Contents} {q : List ℕ} {ctx : ContextAt} {f : FaultsAt} {a : UnpinAt} (ready : Ready x c q (record { context = ctx; faults = f; action = PublicationAction.Unpin a })) where
   abbrev st : State
