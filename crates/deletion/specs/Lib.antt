@@ -1,0 +1,5 @@
+pub mod Rules
+pub mod Permits
+pub mod Reservations
+pub mod Retire
+pub mod RetireCall
