@@ -5,3 +5,5 @@ pub mod Placed
 pub mod Release
 pub mod Runs
 pub mod Renew
+pub mod Asked
+pub mod Acquire

@@ -6,7 +6,8 @@ use mathlib.Core.List.{List, [], _∷_, _++_}
 use mathlib.Core.Path.{_≡_, refl, sym, ap, _∙_}
 use lib.ListN.{length, take, drop}
 use Rattle.parts.specs.Digits.{value}
-use Rattle.state.specs.Maps.{Text, same, Map, Every, _⟼_, key-of, remove}
+use Rattle.state.specs.Maps.{Text, same, Map, Every, _⟼_, key-of, remove, insert}
+use Rattle.state.specs.Places.{ahead, at, behind, split-is, insert-is}
 use Rattle.state.specs.MapLaws.{Each, by-test}
 use Rattle.state.specs.Records.{SnapshotLeaseToken, State}
 use Rattle.fields.specs.Format.{all}
@@ -94,3 +95,23 @@ without-here s x e f k floor =
     ap (λ (l : List ℕ). oldestKept (named k) floor (rows-at (codes lease) (length (s .leases)) l)) (ap (drop (leases-at s)) (sym e) ∙ at-leases s)
     ∙ ap (oldestKept (named k) floor) (rows-are (codes lease) lease-row key-of (s .leases) (from-jobs s) (leases-stored s f .hopped))
     ∙ without-rows k floor (s .leases) (from-jobs s) (well-formed s f .leases .each) (leases-stored s f .hopped)
+
+-- ---- the oldest with a lease more
+
+min-in : (v floor : ℕ) (m : Map SnapshotLeaseToken) → min v (oldest floor m) ≡ oldest (min v floor) m
+unfolding oldest
+min-in v floor [] = refl
+min-in v floor ((id ⟼ t) ∷ m) = let i = min-in v floor m in omega arith
+
+oldest-append : (floor : ℕ) (a b : Map SnapshotLeaseToken) → oldest floor (a ++ b) ≡ oldest (oldest floor b) a
+unfolding oldest
+oldest-append floor [] b = refl
+oldest-append floor ((id ⟼ t) ∷ a) b = ap (min (t .snapshot-version)) (oldest-append floor a b)
+
+pub oldest-insert : (k : Text) (t : SnapshotLeaseToken) (m : Map SnapshotLeaseToken) (floor : ℕ) → at k m ≡ [] → oldest floor (insert k t m) ≡ min (t .snapshot-version) (oldest floor m)
+unfolding oldest
+oldest-insert k t m floor h =
+    let a : Map SnapshotLeaseToken = ahead k m in
+    let b : Map SnapshotLeaseToken = behind k m in
+    let old : oldest floor m ≡ oldest (oldest floor b) a = ap (oldest floor) (split-is k m ∙ ap (λ (l : Map SnapshotLeaseToken). a ++ (l ++ b)) h) ∙ oldest-append floor a b in
+    ap (oldest floor) (insert-is k t m) ∙ oldest-append floor a ((k ⟼ t) ∷ b) ∙ sym (min-in (t .snapshot-version) (oldest floor b) a) ∙ ap (min (t .snapshot-version)) (sym old)

@@ -23,7 +23,7 @@ use Rattle.image.specs.Stored.{leases-stored}
 use Rattle.image.specs.declared.Contents.{Contents}
 use Rattle.machine.specs.Actions.{Rule, find-or, decide}
 use Rattle.next.specs.Kept.{tables-here, length-here, before-leases, leases-seam}
-use Rattle.next.specs.Edit.{lease-codes, none-there, some-there, from-place, run-ahead, run-behind, remove-size, remove-count, insert-over}
+use Rattle.next.specs.Edit.{lease-codes, none-there, some-there, from-place, run-ahead, run-behind, remove-size, remove-count, insert-over, insert-new, insert-size}
 use Rattle.leases.specs.Rows.{before-epoch, before-deadline, epoch-row, deadline-row}
 
 long : (e : Entry SnapshotLeaseToken) → 1 ≤ length (lease-row e)
@@ -71,6 +71,18 @@ module _ (s : State) (x : List ℕ) (e : encodeImage s ≡ x) (w : Formed s) (c 
 
   pub held : place .start < place .end → (v : SnapshotLeaseToken) × (at k m ≡ (k ⟼ v) ∷ []) × (lookup k m ≡ some v)
   held h = some-there (codes lease) lease-row x (intents-at s) (leases-at s) front m (from-jobs s) here starts low (leases-stored s w .hopped) k place found long (leases-stored s w .ascending) h
+
+  -- where none stands, and one is put in
+  pub inserted-count : (u : SnapshotLeaseToken) → at k m ≡ [] → length (insert k u m) ≡ c .leases .count + 1
+  inserted-count u h = insert-new k m u h ∙ ap (λ (d : Contents). d .leases .count + 1) (sym o)
+
+  pub inserted-size : (u : SnapshotLeaseToken) → place .end ≤ place .start → length (all lease-row (insert k u m)) ≡ c .leases .size + length (lease-row (k ⟼ u))
+  inserted-size u h =
+      omega (
+        arith,
+        ap (λ (d : Contents). d .leases .size) o,
+        insert-size (codes lease) lease-row x (intents-at s) (leases-at s) front m (from-jobs s) here starts low (leases-stored s w .hopped) k place found u,
+      )
 
   -- where one stands
   module _ (v : SnapshotLeaseToken) (there : at k m ≡ (k ⟼ v) ∷ []) (looked : lookup k m ≡ some v) where

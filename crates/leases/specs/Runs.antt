@@ -60,7 +60,7 @@ renewedParts r at epoch deadline generation term index =
     ∷ []
 
 -- where the rest of s stands that comes behind a
-place-behind : (s a r : List ℕ) (p : ℕ) → p ≤ length s → drop p s ≡ a ++ r → placeOf s r ≡ p + length a
+pub place-behind : (s a r : List ℕ) (p : ℕ) → p ≤ length s → drop p s ≡ a ++ r → placeOf s r ≡ p + length a
 place-behind s a r p h e = let l = sym (length-drop p s) ∙ ap length e ∙ length-append a r in omega arith
 
 -- A STORED LEASE: the fields up to the epoch, up to the deadline, and up to the generation

@@ -1,7 +1,8 @@
-// The actions on one lease by its id: renew and release.
-ghost use mathlib.Core.Bool.{cond};
+// The actions on one lease by its id: acquire, renew, release.
+ghost use mathlib.Core.Bool.{cond, not, _&&_};
 ghost use mathlib.Core.Path.{_≡_};
 ghost use Prim.Native.Nat.{_+_, _-_, _≤_, min};
+ghost use lib.Dec.{ltb};
 ghost use lib.ListN.{length, take, drop};
 ghost use Rattle.parts.specs.Answer.{Gave};
 ghost use Rattle.parts.specs.Digits.{value};
@@ -14,17 +15,21 @@ ghost use Rattle.next.specs.Call.{Ready};
 ghost use Rattle.leases.specs.Oldest.{named, oldestKept};
 ghost use Rattle.leases.specs.Leased.{withLeases};
 ghost use Rattle.leases.specs.Runs.{runsOf};
+ghost use Rattle.leases.specs.Acquire.{unsetOf, invalidOf, Acquiring};
 use image::Contents;
+use image::MaybeNumber;
 use image::Scalars;
 use image::Table;
 use parts::Applied;
+use requests::AcquireLease;
 use requests::AuthorityContext;
 use requests::PublicationAuthorityFaults;
 use requests::ReleaseLease;
 use requests::RenewLease;
+use tables::Place;
 
 // The number that stands in the record at a place behind some of its fields.
-fn number_after(before: &[u8], s: &[u8], at: usize) -> u64
+pub fn number_after(before: &[u8], s: &[u8], at: usize) -> u64
     ensures { λ r. ⌜ r ≡ value (take 8 (skip 0 (codesOf (now (before .entry))) (drop at (now (s .entry))))) ⌝ }
 {
     parts::u64_at(s, tables::skip_record(before, s, at))
@@ -59,7 +64,7 @@ fn runs_at(s: &[u8], at: usize) -> Runs
 }
 
 // The smaller of m and the version, or m where the lease is gone.
-fn older(gone: bool, version: u64, m: u64) -> u64
+pub fn older(gone: bool, version: u64, m: u64) -> u64
     ensures { λ r. ⌜ r ≡ cond gone m (min version m) ⌝ }
 {
     if gone {
@@ -89,7 +94,7 @@ fn oldest_without(s: &[u8], at: usize, n: usize, id: &[u8], floor: u64) -> u64
 }
 
 // The contents after a change of leases: the numbers that it sets, and the size and count of the table.
-fn with_leases(
+pub fn with_leases(
     c: Contents,
     x: AuthorityContext,
     root_epoch: u64,
@@ -139,6 +144,191 @@ fn with_leases(
         },
         jobs,
     }
+}
+
+fn invalid_acquire(s: &[u8], a: AcquireLease) -> bool
+    ensures { λ r. ⌜ r ≡ invalidOf (now (s .entry)) a ⌝ }
+{
+    let id = a.lease_id;
+    if records::is_empty(s, id) {
+        return true;
+    }
+    let tenant = a.tenant_id;
+    if records::is_empty(s, tenant) {
+        return true;
+    }
+    if a.snapshot_version == 0 {
+        return true;
+    }
+    let owner = a.owner;
+    if records::is_empty(s, owner) {
+        return true;
+    }
+    let purpose = a.purpose;
+    if records::is_empty(s, purpose) {
+        return true;
+    }
+    let closure = a.closure;
+    if records::valid_closure(s, closure) {
+        return false;
+    }
+    true
+}
+
+fn unset(w: MaybeNumber) -> bool
+    ensures { λ r. ⌜ r ≡ unsetOf w ⌝ }
+{
+    match w {
+        MaybeNumber::NoNumber => true,
+        MaybeNumber::Number(_) => false,
+    }
+}
+
+fn below(accept: bool, version: u64, floor: u64) -> bool
+    ensures { λ r. ⌜ r ≡ not accept && ltb version floor ⌝ }
+{
+    if accept {
+        return false;
+    }
+    version < floor
+}
+
+// The lease put in: the request's fields up to the version, the epoch, the rest of them, and the context.
+fn put_lease(
+    image: &[u8],
+    c: Contents,
+    request: &[u8],
+    x: AuthorityContext,
+    f: PublicationAuthorityFaults,
+    a: AcquireLease,
+    p: Place,
+    next: &mut [u8],
+    outcome: &mut [u8],
+) -> Applied
+    requires { ⌜ Acquiring (now image) c (now request) x f a p ⌝ }
+    ensures { λ r. ⌜ Gave (applyBytes (now (image .entry)) (now (request .entry)) (length (now (next .entry))) (length (now (outcome .entry)))) (now (next .entry)) (now (outcome .entry)) r (now (next .exit)) (now (outcome .exit)) ⌝ }
+{
+    let n = c.scalars;
+    let leases = c.leases;
+    let w = n.retention_window;
+    let before = [64u8, 64, 8];
+    let e = tables::skip_record(&before, request, 27);
+    let first = parts::less(e, 27);
+    let epoch = next::up(n.lease_epoch);
+    let root_epoch = next::up_unless(f.omit_lease_root_epoch, n.root_intent_epoch);
+    let policy = floor::policy_for(w, n.observed_commit_frontier, n.policy_floor);
+    let candidate = older(
+        false,
+        a.snapshot_version,
+        floor::oldest(image, leases.at, leases.count, policy),
+    );
+    let readable = floor::readable_for(w, candidate, n.minimum_readable_version);
+    let size = leases.size + (parts::less(request.len(), 27) + 32);
+    let c2 = with_leases(
+        c,
+        x,
+        root_epoch,
+        policy,
+        readable,
+        n.lease_clock_tick,
+        epoch,
+        size,
+        leases.count + 1,
+    );
+    let body = [
+        0,
+        c.intents.at,
+        parts::less(p.start, c.intents.at),
+        1,
+        27,
+        first,
+        2,
+        epoch as usize,
+        8,
+        1,
+        e,
+        request.len(),
+        2,
+        x.generation as usize,
+        8,
+        2,
+        x.position.term as usize,
+        8,
+        2,
+        x.position.index as usize,
+        8,
+        0,
+        p.end,
+        image.len(),
+    ];
+    let told = [
+        2,
+        2,
+        1,
+        1,
+        27,
+        first,
+        2,
+        epoch as usize,
+        8,
+        1,
+        e,
+        request.len(),
+        2,
+        x.generation as usize,
+        8,
+        2,
+        x.position.term as usize,
+        8,
+        2,
+        x.position.index as usize,
+        8,
+    ];
+    next::emit(0, c2, image, request, &body, &told, next, outcome)
+}
+
+pub fn acquire_lease(
+    image: &[u8],
+    c: Contents,
+    request: &[u8],
+    x: AuthorityContext,
+    f: PublicationAuthorityFaults,
+    a: AcquireLease,
+    next: &mut [u8],
+    outcome: &mut [u8],
+) -> Applied
+    requires { ⌜ Ready (now image) c (now request) (record { context = x; faults = f; action = PublicationAction.AcquireLease a }) ⌝ }
+    ensures { λ r. ⌜ Gave (applyBytes (now (image .entry)) (now (request .entry)) (length (now (next .entry))) (length (now (outcome .entry)))) (now (next .entry)) (now (outcome .entry)) r (now (next .exit)) (now (outcome .exit)) ⌝ }
+{
+    let n = c.scalars;
+    let leases = c.leases;
+    if invalid_acquire(request, a) {
+        return parts::refuse(2);
+    }
+    let w = n.retention_window;
+    if unset(w) {
+        return parts::refuse(18);
+    }
+    let t = a.lease_id;
+    let id = parts::clip(request, t.at, t.len);
+    let p = tables::locate(&image::LEASE, image, leases.at, leases.count, id);
+    if p.start < p.end {
+        return parts::refuse(21);
+    }
+    if below(
+        f.accept_backdated_lease,
+        a.snapshot_version,
+        n.minimum_readable_version,
+    ) {
+        return parts::refuse(19);
+    }
+    if n.observed_commit_frontier < a.snapshot_version {
+        return parts::refuse(20);
+    }
+    if a.deadline_tick <= n.lease_clock_tick {
+        return parts::refuse(24);
+    }
+    put_lease(image, c, request, x, f, a, p, next, outcome)
 }
 
 pub fn renew_lease(

@@ -1,0 +1,12 @@
+use borrow.Author.Needs.{needs}
+use Rattle.leases.proofs.below.Statement.{statement}
+use Rattle.leases.proofs.below.Tie as tie
+
+returns : tie.Need-returns
+returns c = search needs
+
+returns-2 : tie.Need-returns-2
+returns-2 c = simp ((c .if1) .left)
+
+pub below-spec : {M : Type 1} → statement M
+below-spec = tie.close (tie.spec returns returns-2)
