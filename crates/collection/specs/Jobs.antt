@@ -27,7 +27,7 @@ use Rattle.next.specs.Kept.{tables-here, length-here, before-jobs, jobs-seam}
 use Rattle.next.specs.Edit.{job-codes, remove-count, run-ahead, run-behind, run-row, remove-size, none-there, some-there}
 use Rattle.next.specs.Shows.{Shown}
 
-job-long : (e : Entry CollectionJobToken) → 1 ≤ length (job-row e)
+pub job-long : (e : Entry CollectionJobToken) → 1 ≤ length (job-row e)
 unfolding enc enc-text
 job-long (k ⟼ v) = omega arith
 

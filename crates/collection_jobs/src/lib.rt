@@ -1,0 +1,294 @@
+// Collection jobs: prepared.
+ghost use mathlib.Core.Path.{_≡_};
+ghost use mathlib.Core.Bool.{cond, not, _&&_};
+ghost use lib.ListN.{length, drop};
+ghost use lib.Dec.{eqb};
+ghost use Prim.Native.Nat.{_≤_};
+ghost use Rattle.parts.specs.Answer.{Gave};
+ghost use Rattle.state.specs.Maps.{any};
+ghost use Rattle.fields.specs.Codes.{codes};
+ghost use Rattle.tables.specs.Seek.{rows-at};
+ghost use Rattle.image.specs.Shapes.{job};
+ghost use Rattle.entries.specs.Bytes.{applyBytes};
+ghost use Rattle.requests.specs.Meaning.{textOf};
+ghost use Rattle.requests.specs.declared.PublicationAction.{PublicationAction};
+ghost use Rattle.next.specs.Call.{Ready};
+ghost use Rattle.collection_jobs.specs.Conflicts.{conflictsAt};
+ghost use Rattle.collection_jobs.specs.Input.{inputStands};
+ghost use Rattle.collection_jobs.specs.Refusals.{malformedAt, staleAt, prepareRefusal};
+use image::Contents;
+use image::MaybeText;
+use image::Table;
+use image::TextAt;
+use parts::Applied;
+use requests::AuthorityContext;
+use requests::PrepareCollection;
+use requests::PublicationAuthorityFaults;
+
+// A job at a place in the way of another: its root, or a namespace of which one begins with the other.
+fn conflicts(s: &[u8], p: usize, root: &[u8], namespace: &[u8]) -> bool
+    ensures { λ r. ⌜ r ≡ conflictsAt (now (root .entry)) (now (namespace .entry)) (drop p (now (s .entry))) ⌝ }
+{
+    let before_root = [64u8, 8, 8, 8, 8, 9, 128, 8, 64];
+    let before_namespace = [64u8, 8, 8, 8, 8, 9, 128, 8, 64, 64, 8, 8];
+    let old_root = fields::text_at(s, tables::skip_record(&before_root, s, p));
+    let old = fields::text_at(s, tables::skip_record(&before_namespace, s, p));
+    if text::same(old_root, root) {
+        return true;
+    }
+    if text::same(old, namespace) {
+        return true;
+    }
+    if text::starts_with(old, namespace) {
+        return true;
+    }
+    text::starts_with(namespace, old)
+}
+
+// Whether one of n jobs that stand at a place is in the way.
+fn any_conflict(s: &[u8], at: usize, n: usize, root: &[u8], namespace: &[u8]) -> bool
+    ensures { λ r. ⌜ r ≡ any (conflictsAt (now (root .entry)) (now (namespace .entry))) (rows-at (codes job) n (drop at (now (s .entry)))) ⌝ }
+{
+    let mut i = 0;
+    let mut p = fields::within(s, at);
+    while i < n {
+        if conflicts(s, p, root, namespace) {
+            return true;
+        }
+        p = tables::skip_record(&image::JOB, s, p);
+        i += 1;
+    }
+    false
+}
+
+// Whether the manifest at a place of the request is the one that is stored under a root.
+pub fn input_stands(image: &[u8], roots: Table, root: &[u8], request: &[u8], at: usize) -> bool
+    requires { ⌜ length (now root) ≤ 64 ⌝ }
+    ensures { λ r. ⌜ r ≡ inputStands (now (image .entry)) roots (now (root .entry)) (now (request .entry)) at ⌝ }
+{
+    let manifest = [9u8, 128, 8, 64];
+    let place = tables::locate(&image::REFERENCE, image, roots.at, roots.count, root);
+    let end = tables::skip_record(&manifest, request, at);
+    let shown = parts::clip(request, at, parts::less(end, at));
+    edits::row_holds(image, place, root.len() + 1, shown)
+}
+
+// One of two numbers.
+fn either(b: bool, x: u64, y: u64) -> u64
+    ensures { λ r. ⌜ r ≡ cond b x y ⌝ }
+{
+    if b { x } else { y }
+}
+
+// Two numbers differ, and a fault flag does not say to pass over it.
+fn differ_unless(ignore: bool, a: u64, b: u64) -> bool
+    ensures { λ r. ⌜ r ≡ not ignore && not (eqb a b) ⌝ }
+{
+    if ignore {
+        return false;
+    }
+    if a == b {
+        return false;
+    }
+    true
+}
+
+fn malformed(request: &[u8], a: PrepareCollection) -> bool
+    ensures { λ r. ⌜ r ≡ malformedAt (now (request .entry)) a ⌝ }
+{
+    let id = a.job_id;
+    let m = a.input_manifest;
+    let root = a.destination_root;
+    let namespace = a.output_namespace;
+    if records::is_empty(request, id) {
+        return true;
+    }
+    if a.frozen_floor == 0 {
+        return true;
+    }
+    if !records::is_manifest(m) {
+        return true;
+    }
+    if !records::valid_reference(request, m) {
+        return true;
+    }
+    if records::is_empty(request, root) {
+        return true;
+    }
+    if a.range_map_epoch == 0 {
+        return true;
+    }
+    if records::is_empty(request, namespace) {
+        return true;
+    }
+    !text::ends_with_byte(parts::clip(request, namespace.at, namespace.len), 47)
+}
+
+// What a job shows of the state: its range map, the collection root, how far was collected.
+pub fn stale(
+    image: &[u8],
+    c: Contents,
+    request: &[u8],
+    ignore: bool,
+    range: u64,
+    root: TextAt,
+    collected: u64,
+) -> u32
+    ensures { λ r. ⌜ r ≡ staleAt (now (image .entry)) c (now (request .entry)) ignore range root collected ⌝ }
+{
+    let n = c.scalars;
+    let old = n.collection_root;
+    if differ_unless(ignore, range, n.range_map_epoch) {
+        return 28;
+    }
+    if !collection::same_maybe(image, old, request, MaybeText::Text(root)) {
+        return 36;
+    }
+    if collected != n.physically_collected_through {
+        return 34;
+    }
+    0
+}
+
+// The number of the first test that a job to be prepared does not pass, or 0.
+fn prepare_refusal(
+    image: &[u8],
+    c: Contents,
+    request: &[u8],
+    f: PublicationAuthorityFaults,
+    a: PrepareCollection,
+) -> u32
+    requires { ⌜ (length (textOf (now request) (a .«job_id»)) ≤ 64) × (length (textOf (now request) (a .«destination_root»)) ≤ 64) ⌝ }
+    ensures { λ r. ⌜ r ≡ prepareRefusal (now (image .entry)) c (now (request .entry)) f a ⌝ }
+{
+    let n = c.scalars;
+    let jobs = c.jobs;
+    let roots = c.roots;
+    let t = a.job_id;
+    let u = a.destination_root;
+    let v = a.output_namespace;
+    if malformed(request, a) {
+        return 2;
+    }
+    let id = parts::clip(request, t.at, t.len);
+    let root = parts::clip(request, u.at, u.len);
+    if reserved::located(&image::JOB, image, jobs.at, jobs.count, id) {
+        return 29;
+    }
+    if any_conflict(
+        image,
+        jobs.at,
+        jobs.count,
+        root,
+        parts::clip(request, v.at, v.len),
+    ) {
+        return 32;
+    }
+    let old = stale(
+        image,
+        c,
+        request,
+        f.ignore_collection_range_epoch,
+        a.range_map_epoch,
+        u,
+        a.expected_collected_through,
+    );
+    if old != 0 {
+        return old;
+    }
+    if a.frozen_floor <= n.physically_collected_through {
+        return 33;
+    }
+    if n.minimum_readable_version < a.frozen_floor {
+        return 33;
+    }
+    if f.ignore_collection_input_root {
+        return 0;
+    }
+    // after the id and the floor
+    if !input_stands(image, roots, root, request, id.len() + 36) {
+        return 7;
+    }
+    0
+}
+
+pub fn prepare_collection(
+    image: &[u8],
+    c: Contents,
+    request: &[u8],
+    x: AuthorityContext,
+    f: PublicationAuthorityFaults,
+    a: PrepareCollection,
+    next: &mut [u8],
+    outcome: &mut [u8],
+) -> Applied
+    requires { ⌜ Ready (now image) c (now request) (record { context = x; faults = f; action = PublicationAction.PrepareCollection a }) ⌝ }
+    ensures { λ r. ⌜ Gave (applyBytes (now (image .entry)) (now (request .entry)) (length (now (next .entry))) (length (now (outcome .entry)))) (now (next .entry)) (now (outcome .entry)) r (now (next .exit)) (now (outcome .exit)) ⌝ }
+{
+    let n = c.scalars;
+    let root = n.collection_root;
+    let roots = c.roots;
+    let jobs = c.jobs;
+    let t = a.job_id;
+    let status = prepare_refusal(image, c, request, f, a);
+    if status != 0 {
+        return parts::refuse(status);
+    }
+    let id = parts::clip(request, t.at, t.len);
+    let place = tables::locate(&image::JOB, image, jobs.at, jobs.count, id);
+    // the token is the action's fields, with generation and position after the id
+    let more = edits::after_insert(jobs, place, parts::less(request.len(), 3));
+    let collected = either(
+        f.advance_collection_without_publication,
+        a.frozen_floor,
+        n.physically_collected_through,
+    );
+    let c2 = collection::contents_after(c, x, collected, root, roots, more);
+    let ahead = parts::less(place.start, c.intents.at);
+    let first = id.len() + 1;
+    let rest = id.len() + 28;
+    let body = [
+        0,
+        c.intents.at,
+        ahead,
+        1,
+        27,
+        first,
+        2,
+        x.generation as usize,
+        8,
+        2,
+        x.position.term as usize,
+        8,
+        2,
+        x.position.index as usize,
+        8,
+        1,
+        rest,
+        request.len(),
+        0,
+        place.end,
+        image.len(),
+    ];
+    let told = [
+        2,
+        5,
+        1,
+        1,
+        27,
+        first,
+        2,
+        x.generation as usize,
+        8,
+        2,
+        x.position.term as usize,
+        8,
+        2,
+        x.position.index as usize,
+        8,
+        1,
+        rest,
+        request.len(),
+    ];
+    next::emit(0, c2, image, request, &body, &told, next, outcome)
+}
