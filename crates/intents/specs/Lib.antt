@@ -1,0 +1,3 @@
+pub mod Intents
+pub mod PrepareRule
+pub mod PrepareCall
