@@ -4,10 +4,11 @@ use mathlib.Core.List.{List, [], _∷_}
 use mathlib.Core.Bool.{Bool, true, false, _&&_, _||_}
 use mathlib.Core.Path.{_≡_, refl, sym, ap, _∙_}
 use lib.ListN.{drop}
-use Rattle.state.specs.Maps.{Text, same}
+use Rattle.state.specs.Maps.{Text, same, any}
 use Rattle.fields.specs.Codes.{Code, codes, skip, codeOf, codesOf}
 use Rattle.fields.specs.Rows.{text-here}
 use Rattle.fields.specs.Walks.{placeOf}
+use Rattle.scans.specs.Scans.{namesAt, usesAt}
 use Rattle.scans.specs.ScanLaws.{after-record}
 use Rattle.deletion.specs.Permits.{before-plan, matchesOf}
 
@@ -41,3 +42,10 @@ module _ (weak : Bool) (row shown : List ℕ) (plan k : Text) where
       pub match-key : same plan-here plan ≡ true → (t : Text) (b : Bool) → t ≡ text-here (drop 0 row) → b ≡ same t k → b ≡ matchesOf weak row shown plan k
       unfolding matchesOf
       match-key p t b e f = f ∙ ap (λ (u : Text). same u k) e ∙ sym (λ i. h i || w i && p i && same (text-here row) k)
+
+-- what was found with a key that was cut out of the request
+pub names-told : (cs : List Code) (rows : List (List ℕ)) (j k : Text) (b : Bool) → j ≡ k → b ≡ any (namesAt cs j) rows → any (namesAt cs k) rows ≡ b
+names-told cs rows j k b e h = sym (h ∙ ap (λ (t : Text). any (namesAt cs t) rows) e)
+
+pub uses-told : (rows : List (List ℕ)) (j k : Text) (b : Bool) → j ≡ k → b ≡ any (usesAt j) rows → any (usesAt k) rows ≡ b
+uses-told rows j k b e h = sym (h ∙ ap (λ (t : Text). any (usesAt t) rows) e)
