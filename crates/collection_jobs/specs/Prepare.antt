@@ -104,7 +104,7 @@ malformed-tests id floor m root range ns n =
     ∙ ap (λ (k : ℕ). cond (eqb range 0) 2 k) (or-cond (is-empty ns) (not (ends-with-byte 47 ns)) 2 n))))))
 
 -- the tests of what the job shows, and then the others
-stale-tests : (a b c : Bool) (n : ℕ) → or-else (cond a 28 (cond b 36 (cond c 34 0))) n ≡ cond a 28 (cond b 36 (cond c 34 n))
+pub stale-tests : (a b c : Bool) (n : ℕ) → or-else (cond a 28 (cond b 36 (cond c 34 0))) n ≡ cond a 28 (cond b 36 (cond c 34 n))
 stale-tests a b c n =
     else-cond a 27 (cond b 36 (cond c 34 0)) n
     ∙ ap (λ (k : ℕ). cond a 28 k) (else-cond b 35 (cond c 34 0) n ∙ ap (λ (k : ℕ). cond b 36 k) (else-cond c 33 0 n))
