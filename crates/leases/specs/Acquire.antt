@@ -18,11 +18,11 @@ use Rattle.fields.specs.Format.{all, enc}
 use Rattle.fields.specs.Codes.{codes}
 use Rattle.tables.specs.Seek.{rows-at}
 use Rattle.tables.specs.declared.Place.{Place}
-use Rattle.image.specs.Layout.{encodeImage, Formed, own-row}
+use Rattle.image.specs.Layout.{encodeImage, Formed}
 use Rattle.image.specs.Opened.{numberOf, contentsOf}
 use Rattle.image.specs.Shapes.{lease, lease-parts, closure-parts}
 use Rattle.image.specs.Tables.{lease-row}
-use Rattle.image.specs.ImageParts.{from-intents, length-each}
+use Rattle.image.specs.ImageParts.{from-intents}
 use Rattle.image.specs.declared.Contents.{Contents}
 use Rattle.image.specs.declared.MaybeNumber.{MaybeNumber}
 use Rattle.machine.specs.Actions.{AcquireLease, Transition, rejected, accepted, Rule, refuse-or, accept, decide, LeaseAcquired}
@@ -40,12 +40,11 @@ use Rattle.next.specs.Asked.{fields-here}
 use Rattle.next.specs.Bounds.{request-small}
 use Rattle.next.specs.Head.{Small}
 use Rattle.next.specs.Shows.{Shows}
-use Rattle.next.specs.Kept.{small-here}
 use Rattle.next.specs.Call.{Ready, ruled}
 use Rattle.floor.specs.Floors.{policyFor, readableFor, oldestAt}
 use Rattle.floor.specs.Oldest.{oldest-here}
 use Rattle.leases.specs.Oldest.{oldest-insert}
-use Rattle.leases.specs.Leased.{withLeases, Recomputed, recomputed, small-leases}
+use Rattle.leases.specs.Leased.{withLeases, Recomputed, recomputed, small-leases, table-size-low, table-count-low}
 use Rattle.leases.specs.Placed.{Found, missing, held, inserted-count, inserted-size, placed-tables}
 use Rattle.leases.specs.Asked.{splitAt, askedParts, asked-gathers, asked-length}
 
@@ -251,10 +250,10 @@ module _ {x : List ℕ} {c : Contents} {q : List ℕ} {a : ContextAt} {f : Fault
 
   -- bounds
   pub size-low : c .leases .size ≤ 65535
-  size-low = omega (arith, ap (λ (d : Contents). d .leases .size) (ready .opened), small-here s (ready .formed) .5)
+  size-low = table-size-low s (ready .formed) c (ready .opened)
 
   pub count-low : c .leases .count ≤ 64
-  count-low = omega (arith, ap (λ (d : Contents). d .leases .count) (ready .opened), length-each (own-row lease-parts) (s .leases), ready .formed .fits .1 .1 .1 .1 .1 .0 .count)
+  count-low = table-count-low s (ready .formed) c (ready .opened)
 
   pub request-low : length q ≤ 8000
   request-low = subst (λ (r : List ℕ). length r ≤ 8000) (sym (ready .request-is)) (request-small (requestOf q (record { context = a; faults = f; action = PublicationAction.AcquireLease l })) (ready .within))

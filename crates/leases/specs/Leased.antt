@@ -8,7 +8,9 @@ use Rattle.state.specs.Maps.{Map}
 use Rattle.state.specs.Records.{SnapshotLeaseToken, State}
 use Rattle.state.specs.Setters.{set-revision, set-root-intent-epoch, set-policy-floor, set-minimum-readable-version, set-lease-clock-tick, set-lease-epoch, set-leases}
 use Rattle.fields.specs.Format.{all}
-use Rattle.image.specs.Layout.{encodeImage, Formed}
+use Rattle.image.specs.Shapes.{lease-parts}
+use Rattle.image.specs.Layout.{encodeImage, Formed, own-row}
+use Rattle.image.specs.ImageParts.{length-each}
 use Rattle.image.specs.Opened.{numberOf, contentsOf}
 use Rattle.image.specs.Tables.{lease-row}
 use Rattle.image.specs.declared.Contents.{Contents}
@@ -118,3 +120,10 @@ pub small-leases : (s : State) → Formed s → (c : Contents) → c ≡ content
 small-leases s f c o a {root-epoch} {policy} {readable} {clock} {epoch} {size} {count} h q =
     subst Small (sym (q ∙ ap (λ (k : Contents). withLeases k a root-epoch policy readable clock epoch size count) o))
     (let l = small-here s f in (omega (arith, l .0), omega (arith, l .1), omega (arith, l .2), omega (arith, l .3), omega (arith, l .4), h, omega (arith, l .6)))
+
+-- the table as it is: its bytes and its rows
+pub table-size-low : (s : State) → Formed s → (c : Contents) → c ≡ contentsOf s → c .leases .size ≤ 65535
+table-size-low s f c o = omega (arith, ap (λ (d : Contents). d .leases .size) o, small-here s f .5)
+
+pub table-count-low : (s : State) → Formed s → (c : Contents) → c ≡ contentsOf s → c .leases .count ≤ 64
+table-count-low s f c o = omega (arith, ap (λ (d : Contents). d .leases .count) o, length-each (own-row lease-parts) (s .leases), f .fits .1 .1 .1 .1 .1 .0 .count)

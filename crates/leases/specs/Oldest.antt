@@ -26,7 +26,8 @@ use Rattle.machine.specs.Formed.{LeaseAt}
 use Rattle.machine.specs.Next.{oldest}
 use Rattle.entries.specs.Sized.{image-texts, well-formed}
 use Rattle.next.specs.Edit.{lease-codes}
-use Rattle.leases.specs.Rows.{before-version, version-row}
+use Rattle.floor.specs.Floors.{before-version}
+use Rattle.leases.specs.Rows.{version-row}
 
 -- a row that is gone is passed over
 unfoldable pub oldestKept : (List ℕ → Bool) → ℕ → List (List ℕ) → ℕ
@@ -53,22 +54,31 @@ kept-row gone v m r rs e =
     ∙ by-test (λ b. cond b (oldestKept gone m rs) (min v (oldestKept gone m rs)) ≡ oldestKept gone (cond b m (min v m)) rs) (gone r) (λ _. refl) (λ _. kept-in gone v m rs)
 
 -- row after row, with what is left of s at p
+module _ (s : List ℕ) (p n i : ℕ) where
+  pub rows-none : n ≤ i → rows-at (codes lease) (n - i) (drop p s) ≡ []
+  unfolding rows-at
+  rows-none h = let z : n - i ≡ 0 = omega arith in rw z
+
+  pub rows-next : (q : ℕ) → q ≡ placeOf s (skip 0 (codesOf (64 ∷ 64 ∷ 8 ∷ 8 ∷ 64 ∷ 64 ∷ 8 ∷ 9 ∷ 128 ∷ 8 ∷ 64 ∷ 10 ∷ 8 ∷ 8 ∷ 8 ∷ [])) (drop p s))
+      → i < n → rows-at (codes lease) (n - i) (drop p s) ≡ drop p s ∷ rows-at (codes lease) (n - (i + 1)) (drop q s)
+  unfolding rows-at
+  rows-next q e h =
+      let z : n - i ≡ suc (n - (i + 1)) = omega arith in
+      let d : drop q s ≡ skip 0 (codes lease) (drop p s) =
+      ap (λ (j : ℕ). drop j s) (e ∙ ap (λ (cs : List Code). placeOf s (skip 0 cs (drop p s))) lease-codes) ∙ rest-place (rest-trans (rest-drop p s) (skip-rest 0 (codes lease) (drop p s))) in
+      ap (λ (k : ℕ). rows-at (codes lease) k (drop p s)) z ∙ ap (λ (l : List ℕ). drop p s ∷ rows-at (codes lease) (n - (i + 1)) l) (sym d)
+
 module _ (gone : List ℕ → Bool) (s : List ℕ) (p n i m : ℕ) where
   pub kept-end : n ≤ i → oldestKept gone m (rows-at (codes lease) (n - i) (drop p s)) ≡ m
-  unfolding oldestKept rows-at
-  kept-end h = let z : n - i ≡ 0 = omega arith in rw z
+  unfolding oldestKept
+  kept-end h = ap (oldestKept gone m) (rows-none s p n i h)
 
   pub kept-on : (v q : ℕ) → i < n → v ≡ value (take 8 (skip 0 (codesOf (64 ∷ 64 ∷ [])) (drop p s)))
       → q ≡ placeOf s (skip 0 (codesOf (64 ∷ 64 ∷ 8 ∷ 8 ∷ 64 ∷ 64 ∷ 8 ∷ 9 ∷ 128 ∷ 8 ∷ 64 ∷ 10 ∷ 8 ∷ 8 ∷ 8 ∷ [])) (drop p s))
       → oldestKept gone m (rows-at (codes lease) (n - i) (drop p s)) ≡ oldestKept gone (cond (gone (drop p s)) m (min v m)) (rows-at (codes lease) (n - (i + 1)) (drop q s))
-  unfolding rows-at
   kept-on v q h ev eq =
-      let z : n - i ≡ suc (n - (i + 1)) = omega arith in
-      let d : drop q s ≡ skip 0 (codes lease) (drop p s) =
-      ap (λ (j : ℕ). drop j s) (eq ∙ ap (λ (cs : List Code). placeOf s (skip 0 cs (drop p s))) lease-codes) ∙ rest-place (rest-trans (rest-drop p s) (skip-rest 0 (codes lease) (drop p s))) in
-      ap (λ (k : ℕ). oldestKept gone m (rows-at (codes lease) k (drop p s))) z
-      ∙ kept-row gone v m (drop p s) (rows-at (codes lease) (n - (i + 1)) (skip 0 (codes lease) (drop p s))) (ev ∙ ap (λ (cs : List Code). value (take 8 (skip 0 cs (drop p s)))) version-codes)
-      ∙ ap (λ (l : List ℕ). oldestKept gone (cond (gone (drop p s)) m (min v m)) (rows-at (codes lease) (n - (i + 1)) l)) (sym d)
+      ap (oldestKept gone m) (rows-next s p n i q eq h)
+      ∙ kept-row gone v m (drop p s) (rows-at (codes lease) (n - (i + 1)) (drop q s)) (ev ∙ ap (λ (cs : List Code). value (take 8 (skip 0 cs (drop p s)))) version-codes)
 
 -- the row of an id
 abbrev pub named : Text → List ℕ → Bool

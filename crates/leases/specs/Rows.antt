@@ -8,10 +8,8 @@ use Rattle.state.specs.Records.{SnapshotLeaseToken}
 use Rattle.fields.specs.Format.{Field, _▹_, El, enc}
 use Rattle.fields.specs.Codes.{Code, a-text, a-number, codes, skip}
 use Rattle.image.specs.Shapes.{short, u64, name, position, closure, lease, lease-parts}
+use Rattle.floor.specs.Floors.{before-version}
 use Rattle.next.specs.Peeks.{skip-to, number-here}
-
-abbrev pub before-version : List Code
-before-version = a-text short ∷ a-text short ∷ []
 
 abbrev pub before-epoch : List Code
 before-epoch = a-text short ∷ a-text short ∷ a-number 8 ∷ []

@@ -1,0 +1,94 @@
+use Rattle.machine.specs.Actions.{LeasesExpired}
+use Rattle.machine.specs.Next.{expired, clock-advanced}
+use Rattle.next.specs.Call.{refused, done}
+use Rattle.clock.specs.Advance.{other-tick, back, onward, count-low, image-low, advance-small, advance-told, advance-tables, advance-shows}
+use borrow.Author.Needs.{needs}
+use Rattle.clock.proofs.advance_lease_clock.Statement.{statement}
+use Rattle.clock.proofs.advance_lease_clock.Tie as tie
+
+refuse-requires : tie.Need-refuse-requires
+refuse-requires c κs = search needs
+
+returns : tie.Need-returns
+returns c = refused (c .before .before .before .before .before .before .before .before .before .before .pre) 25 (other-tick (c .before .before .before .before .before .before .before .before .before .before .pre) ((c .before .if1) .taken)) ((c .refuse) .ensures)
+
+refuse-requires-2 : tie.Need-refuse-requires-2
+refuse-requires-2 c κs = search needs
+
+returns-2 : tie.Need-returns-2
+returns-2 c = refused (c .before .before .before .before .before .before .before .before .before .before .before .before .pre) 26 (back (c .before .before .before .before .before .before .before .before .before .before .before .before .pre) ((c .before .before .before .if1) .left) ((c .before .if2) .taken)) ((c .refuse2) .ensures)
+
+policy-for-requires : tie.Need-policy-for-requires
+policy-for-requires c κs = search needs
+
+count-rows-requires : tie.Need-count-rows-requires
+count-rows-requires c κs = (count-low (c .before .before .before .before .before .before .before .before .before .before .before .before .pre), image-low (c .before .before .before .before .before .before .before .before .before .before .before .before .pre))
+
+up-if-requires : tie.Need-up-if-requires
+up-if-requires c κs = search needs
+
+root-after-requires : tie.Need-root-after-requires
+root-after-requires c κs = search needs
+
+readable-for-requires : tie.Need-readable-for-requires
+readable-for-requires c κs = search needs
+
+less-requires : tie.Need-less-requires
+less-requires c κs = search needs
+
+with-leases-requires : tie.Need-with-leases-requires
+with-leases-requires c κs = search needs
+
+body-parts-requires : tie.Need-body-parts-requires
+body-parts-requires c κs = count-low (c .before .before .before .before .before .before .before .before .before .before .before .before .before .before .before .before .before .before .pre)
+
+told-parts-requires : tie.Need-told-parts-requires
+told-parts-requires c κs = count-low (c .before .before .before .before .before .before .before .before .before .before .before .before .before .before .before .before .before .before .before .pre)
+
+slice-aggregate-emit : tie.Need-slice-aggregate-emit
+slice-aggregate-emit c = search needs
+
+slice-aggregate-emit-2 : tie.Need-slice-aggregate-emit-2
+slice-aggregate-emit-2 c = search needs
+
+emit-requires : tie.Need-emit-requires
+emit-requires c κs = advance-small (c .before .before .before .before .before .before .before .before .before .before .before .before .before .before .before .before .before .before .before .before .before .before .before .before .pre) ((c .before .before .before .before .before .before .before .before .before .before .before .before .policy-for) .result) ((c .before .before .before .before .before .before .before .before .before .before .before .count-rows) .ensures) ((c .before .before .before .before .before .before .with-leases) .ensures)
+
+same-length : tie.Need-same-length
+same-length c = search needs
+
+same-length-2 : tie.Need-same-length-2
+same-length-2 c = search needs
+
+returns-3 : tie.Need-returns-3
+returns-3 c = done (c .before .before .before .before .before .before .before .before .before .before .before .before .before .before .before .before .before .before .before .before .before .before .before .before .before .before .before .before .before .pre) (clock-advanced ((c .before .before .before .before .before .before .before .before .before .before .before .before .before .before .before .before .before .before .before .before .before .before .before .before .before .before .before .before .before .pre) .state) ((c .before .before .before .before .before .before .before .before .before .before .before .before .before .before .before .before .before .before .before .before .before .before .before .before .before .before .before .before .before .args) .a .«next_tick») ((c .before .before .before .before .before .before .before .before .before .before .before .before .before .before .before .before .before .before .before .before .before .before .before .before .before .before .before .before .before .args) .f .«omit_lease_root_epoch»)) (LeasesExpired (expired ((c .before .before .before .before .before .before .before .before .before .before .before .before .before .before .before .before .before .before .before .before .before .before .before .before .before .before .before .before .before .pre) .state) ((c .before .before .before .before .before .before .before .before .before .before .before .before .before .before .before .before .before .before .before .before .before .before .before .before .before .before .before .before .before .args) .a .«next_tick»))) 0 ((c .before .before .before .before .before .before .before .before .before .before .before .with-leases) .result)
+    ((c .before .before .before .before .before .before .before .before .before .before .body-parts) .result) ((c .before .before .before .before .before .before .before .before .before .told-parts) .result)
+    (onward (c .before .before .before .before .before .before .before .before .before .before .before .before .before .before .before .before .before .before .before .before .before .before .before .before .before .before .before .before .before .pre) ((c .before .before .before .before .before .before .before .before .before .before .before .before .before .before .before .before .before .before .before .before .if1) .left) ((c .before .before .before .before .before .before .before .before .before .before .before .before .before .before .before .before .before .before .if2) .left))
+    (advance-shows (c .before .before .before .before .before .before .before .before .before .before .before .before .before .before .before .before .before .before .before .before .before .before .before .before .before .before .before .before .before .pre) _ _ _ _ _ _ ((c .before .before .before .before .before .before .before .before .before .before .before .before .before .before .before .before .before .policy-for) .ensures) ((c .before .before .before .before .before .before .before .before .before .before .before .before .before .before .before .before .count-rows) .ensures) ((c .before .before .before .before .before .before .before .before .before .before .before .before .before .before .before .up-if) .ensures) ((c .before .before .before .before .before .before .before .before .before .before .before .before .before .before .root-after) .ensures) ((c .before .before .before .before .before .before .before .before .before .before .before .before .before .readable-for) .ensures) ((c .before .before .before .before .before .before .before .before .before .before .before .before .less) .ensures) _ ((c .before .before .before .before .before .before .before .before .before .before .before .with-leases) .ensures))
+    (advance-tables (c .before .before .before .before .before .before .before .before .before .before .before .before .before .before .before .before .before .before .before .before .before .before .before .before .before .before .before .before .before .pre) ((c .before .before .before .before .before .before .before .before .before .before .body-parts) .ensures))
+    (advance-told (c .before .before .before .before .before .before .before .before .before .before .before .before .before .before .before .before .before .before .before .before .before .before .before .before .before .before .before .before .before .pre) ((c .before .before .before .before .before .before .before .before .before .before .before .before .before .before .before .before .before .policy-for) .result) ((c .before .before .before .before .before .before .before .before .before .before .before .before .before .before .before .before .count-rows) .ensures) ((c .before .before .before .before .before .before .before .before .before .told-parts) .ensures))
+    ((c .before .before .before .before .emit) .ensures)
+
+pub advance-lease-clock-spec : {M : Type 1} → statement M
+advance-lease-clock-spec =
+    tie.close
+    (tie.spec
+    refuse-requires
+    returns
+    refuse-requires-2
+    returns-2
+    policy-for-requires
+    count-rows-requires
+    up-if-requires
+    root-after-requires
+    readable-for-requires
+    less-requires
+    with-leases-requires
+    body-parts-requires
+    told-parts-requires
+    slice-aggregate-emit
+    slice-aggregate-emit-2
+    emit-requires
+    same-length
+    same-length-2
+    returns-3)

@@ -1,0 +1,4 @@
+pub mod Due
+pub mod Tallies
+pub mod Parts
+pub mod Advance
