@@ -14,11 +14,12 @@ use Rattle.state.specs.Maps.{Text, _⟼_, lookup, remove}
 use Rattle.state.specs.Places.{at}
 use Rattle.state.specs.Records.{State, AuthorityContext, PublicationAuthorityFaults, CollectionJobToken, job-eq}
 use Rattle.state.specs.Setters.{set-revision}
-use Rattle.fields.specs.Format.{enc}
+use Rattle.fields.specs.Format.{enc, all}
 use Rattle.fields.specs.Codes.{codesOf}
 use Rattle.tables.specs.Seek.{seek, placed}
 use Rattle.tables.specs.declared.Place.{Place}
 use Rattle.image.specs.Shapes.{job, job-parts}
+use Rattle.image.specs.Tables.{job-row}
 use Rattle.image.specs.ImageParts.{from-intents}
 use Rattle.image.specs.Opened.{contentsOf}
 use Rattle.image.specs.declared.Table.{Table}
@@ -32,7 +33,8 @@ use Rattle.requests.specs.declared.PublicationAuthorityFaults.{PublicationAutho
 use Rattle.requests.specs.declared.CollectionJobToken.{CollectionJobToken as JobTokenAt}
 use Rattle.requests.specs.declared.PublicationAction.{PublicationAction}
 use Rattle.next.specs.Head.{Small}
-use Rattle.next.specs.Shows.{Shows}
+use Rattle.next.specs.Shows.{Shown, Shows}
+use Rattle.edits.specs.Changes.{afterRemove}
 use Rattle.next.specs.Call.{Ready, ruled}
 use Rattle.next.specs.Asked.{fields-here}
 use Rattle.next.specs.Kept.{run-rest, root-here, root-size-here, small-here}
@@ -116,23 +118,24 @@ module _ {x q : List ℕ} {c : Contents} {y : ContextAt} {g : FaultsAt} {a : Job
           pub abandoned : a .«owner_generation» ≡ y .generation → ruled pre ≡ accepted (collection-abandoned s (token .job-id)) Applied
           abandoned n = ruled-taken s token _ _ (there .0) (there .2) (sym equal-is ∙ not-false equal k) (eq-eqb _ _ n)
 
-      module _ (left : Table) (sized : left .size ≡ c .jobs .size - (place .end - place .start)) (counted : left .count ≡ c .jobs .count - 1) where
-        abbrev contents-then : Contents → Contents
-        contents-then k = contentsAfter k (y .position .term) (y .position .index) (k .scalars .«physically_collected_through») (k .scalars .«collection_root») (k .roots) left
+    module _ (left : Table) (shrunk : left ≡ afterRemove (c .jobs) place) where
+      abbrev contents-then : Contents → Contents
+      contents-then k = contentsAfter k (y .position .term) (y .position .index) (k .scalars .«physically_collected_through») (k .scalars .«collection_root») (k .roots) left
 
-        pub abandoned-shows : (c′ : Contents) → c′ ≡ contents-then c → Shows x q 0 c′ (set-revision (positionOf (y .position)) (collection-abandoned s (token .job-id)))
-        abandoned-shows c′ e =
-            subst (λ (k : Contents). Shows x q 0 k (set-revision (positionOf (y .position)) (collection-abandoned s (token .job-id)))) (sym (e ∙ ap contents-then (pre .opened)))
-            (after-shows s x q 0 (y .position .term) (y .position .index) (s .physically-collected-through) (s .collection-root) (s .roots) (remove (token .job-id) (s .collection-jobs))
-            (contentsOf s .scalars .«collection_root») (contentsOf s .roots) left (root-here s x (pre .image-is) q) (root-size-here s) (record { size = refl; count = refl })
-            (job-gone s x (pre .image-is) (pre .formed) c (pre .opened) (token .job-id) place here (there .0) (there .1) (there .2) left sized counted))
+      pub abandoned-shows : (c′ : Contents) → c′ ≡ contents-then c → Shows x q 0 c′ (set-revision (positionOf (y .position)) (collection-abandoned s (token .job-id)))
+      abandoned-shows c′ e =
+          subst (λ (k : Contents). Shows x q 0 k (set-revision (positionOf (y .position)) (collection-abandoned s (token .job-id)))) (sym (e ∙ ap contents-then (pre .opened)))
+          (after-shows s x q 0 (y .position .term) (y .position .index) (s .physically-collected-through) (s .collection-root) (s .roots) (remove (token .job-id) (s .collection-jobs))
+          (contentsOf s .scalars .«collection_root») (contentsOf s .roots) left (root-here s x (pre .image-is) q) (root-size-here s) (record { size = refl; count = refl })
+          (subst (λ (k : Table). Shown k (all job-row (remove (token .job-id) (s .collection-jobs))) (length (remove (token .job-id) (s .collection-jobs)))) (sym shrunk)
+          (job-gone s x (pre .image-is) (pre .formed) c (pre .opened) (token .job-id) place here)))
 
-        pub abandoned-small : (c′ : Contents) → c′ ≡ contents-then c → Small c′
-        abandoned-small c′ e =
-            let h = small-here s (pre .formed) in
-            let z : left .size ≡ contentsOf s .jobs .size - (place .end - place .start) = sized ∙ ap (λ (k : Contents). k .jobs .size - (place .end - place .start)) (pre .opened) in
-            subst Small (sym (e ∙ ap contents-then (pre .opened)))
-            (omega (arith, h .0), omega (arith, h .1), omega (arith, h .2), omega (arith, h .3), omega (arith, h .4), omega (arith, h .5), omega (arith, h .6))
+      pub abandoned-small : (c′ : Contents) → c′ ≡ contents-then c → Small c′
+      abandoned-small c′ e =
+          let h = small-here s (pre .formed) in
+          let z : left .size ≡ contentsOf s .jobs .size - (place .end - place .start) = ap (λ (k : Table). k .size) shrunk ∙ ap (λ (k : Contents). k .jobs .size - (place .end - place .start)) (pre .opened) in
+          subst Small (sym (e ∙ ap contents-then (pre .opened)))
+          (omega (arith, h .0), omega (arith, h .1), omega (arith, h .2), omega (arith, h .3), omega (arith, h .4), omega (arith, h .5), omega (arith, h .6))
 
     pub abandoned-body : (n : ℕ) → n ≡ place .start - c .intents .at → gatherOf x q (0 ∷ c .intents .at ∷ n ∷ 0 ∷ place .end ∷ length x ∷ []) ≡ from-intents (collection-abandoned s (token .job-id))
     abandoned-body n h = jobs-without s x (pre .image-is) (pre .formed) c (pre .opened) (token .job-id) place here q n h

@@ -1,14 +1,14 @@
 -- The place of a job in the image: jobs are its last table.
 use Prim.Native.Nat.{ℕ, _+_, _-_, _≤_, _<_}
 use native.Mathlib.Omega.{arith}
-use mathlib.Core.List.{List, [], _∷_, _++_, append-assoc, append-nil}
+use mathlib.Core.List.{List, [], _∷_, _++_, append-nil}
 use mathlib.Core.Option.{none, some}
 use mathlib.Core.Path.{_≡_, sym, ap, _∙_}
 use lib.ListN.{length, drop, length-append}
 use Rattle.text.specs.Same.{sameOf}
 use Rattle.parts.specs.Gather.{run, gatherOf}
 use Rattle.state.specs.Maps.{Text, Map, Entry, _⟼_, lookup, remove}
-use Rattle.state.specs.Places.{ahead, at, behind}
+use Rattle.state.specs.Places.{at}
 use Rattle.state.specs.Records.{State, CollectionJobToken, job-eq}
 use Rattle.fields.specs.Format.{all, enc, enc-text, Within}
 use Rattle.fields.specs.Codes.{Code, codes, codesOf}
@@ -16,16 +16,18 @@ use Rattle.tables.specs.Seek.{seek, placed}
 use Rattle.tables.specs.declared.Place.{Place}
 use Rattle.image.specs.Shapes.{job, job-parts}
 use Rattle.image.specs.Layout.{encodeImage, Formed}
-use Rattle.image.specs.Tables.{job-row, bytes-remove}
+use Rattle.image.specs.Tables.{job-row}
 use Rattle.image.specs.SameBytes.{same-job}
 use Rattle.image.specs.ImageParts.{jobs-bytes, intents-at, jobs-at}
 use Rattle.image.specs.Opened.{contentsOf}
 use Rattle.image.specs.Stored.{jobs-stored}
 use Rattle.image.specs.declared.Contents.{Contents}
-use Rattle.image.specs.declared.Table.{Table}
 use Rattle.next.specs.Kept.{tables-here, length-here, before-jobs, jobs-seam}
-use Rattle.next.specs.Edit.{job-codes, remove-count, run-ahead, run-behind, run-row, remove-size, none-there, some-there}
+use Rattle.next.specs.Edit.{job-codes, run-row, none-there, some-there}
 use Rattle.next.specs.Shows.{Shown}
+use Rattle.edits.specs.Changes.{afterRemove}
+use Rattle.edits.specs.ChangeLaws.{remove-shown}
+use Rattle.edits.specs.Splices.{removed-body}
 
 pub job-long : (e : Entry CollectionJobToken) → 1 ≤ length (job-row e)
 unfolding enc enc-text
@@ -74,27 +76,17 @@ module _ (s : State) (x : List ℕ) (e : encodeImage s ≡ x) (f : Formed s) (c 
           → sameOf stored shown ≡ job-eq v t
       job-same t w stored shown e₁ e₂ = (λ i. sameOf ((e₁ ∙ job-bytes) i) (e₂ i)) ∙ same-job v t (jobs-stored s f .found id v is .1) w
 
-      -- THE TABLE WITHOUT IT
-      pub job-gone : (t : Table) → t .size ≡ c .jobs .size - (place .end - place .start) → t .count ≡ c .jobs .count - 1 → Shown t (all job-row (remove id jobs)) (length (remove id jobs))
-      job-gone t z n = record {
-        size = z ∙ ap (λ (k : Contents). k .jobs .size - (place .end - place .start)) o
-            ∙ sym (remove-size (codes job) job-row x (intents-at s) (jobs-at s) (before-jobs s []) jobs [] (jobs-here s x e) (jobs-start s x e) (tables-low s x e) (jobs-stored s f .hopped) id place job-found
-            (jobs-stored s f .ascending));
-        count = n ∙ ap (λ (k : Contents). k .jobs .count - 1) o ∙ sym (remove-count id jobs v (jobs-stored s f .ascending) there);
-      }
+    -- THE TABLE WITHOUT IT, and the tables gathered around it
+    pub job-gone : Shown (afterRemove (c .jobs) place) (all job-row (remove id jobs)) (length (remove id jobs))
+    job-gone =
+        remove-shown (codes job) job-row x (intents-at s) (jobs-at s) (before-jobs s []) jobs [] (jobs-here s x e) (jobs-start s x e) (tables-low s x e) (jobs-stored s f .hopped) id place job-found job-long
+        (jobs-stored s f .ascending) (c .jobs) (ap (λ (k : Contents). k .jobs .size) o) (ap (λ (k : Contents). k .jobs .count) o)
 
-    -- the runs around a job
     pub jobs-without : (q : List ℕ) (n : ℕ) → n ≡ place .start - c .intents .at
         → gatherOf x q (0 ∷ c .intents .at ∷ n ∷ 0 ∷ place .end ∷ length x ∷ []) ≡ before-jobs s (all job-row (remove id jobs))
     jobs-without q n h =
-        let a = all job-row (ahead id jobs) in
-        let b = all job-row (behind id jobs) in
-        let i : c .intents .at ≡ intents-at s = ap (λ (k : Contents). k .intents .at) o in
-        (λ j. run x (i j) ((h ∙ ap (λ (m : ℕ). place .start - m) i) j) ++ (run x (place .end) (length x) ++ []))
-        ∙ (λ j. run-ahead (codes job) job-row x (intents-at s) (jobs-at s) (before-jobs s []) jobs [] (jobs-here s x e) (jobs-start s x e) (tables-low s x e) (jobs-stored s f .hopped) id place job-found j
-        ++ append-nil (run x (place .end) (length x)) j)
-        ∙ ap (λ (l : List ℕ). (before-jobs s [] ++ a) ++ l)
-        (run-behind (codes job) job-row x (intents-at s) (jobs-at s) (before-jobs s []) jobs [] (jobs-here s x e) (jobs-start s x e) (tables-low s x e) (jobs-stored s f .hopped) id place job-found ∙ append-nil b)
-        ∙ append-assoc (before-jobs s []) a b
-        ∙ ap (λ (l : List ℕ). before-jobs s [] ++ l) (sym (bytes-remove job-row id jobs (jobs-stored s f .ascending)))
-        ∙ sym (jobs-seam s [] (all job-row (remove id jobs)))
+        ap (λ (m : ℕ). gatherOf x q (0 ∷ c .intents .at ∷ m ∷ 0 ∷ place .end ∷ length x ∷ [])) h
+        ∙ ap (λ (k : Contents). gatherOf x q (0 ∷ k .intents .at ∷ (place .start - k .intents .at) ∷ 0 ∷ place .end ∷ length x ∷ [])) o
+        ∙ removed-body (codes job) job-row x q (intents-at s) (jobs-at s) (before-jobs s []) jobs [] (jobs-here s x e) (jobs-start s x e) (tables-low s x e) (jobs-stored s f .hopped) id place job-found
+        (jobs-stored s f .ascending)
+        ∙ ap (λ (l : List ℕ). before-jobs s [] ++ l) (append-nil (all job-row (remove id jobs))) ∙ sym (jobs-seam s [] (all job-row (remove id jobs)))

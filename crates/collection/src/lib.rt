@@ -155,8 +155,7 @@ pub fn abandon_collection(
     if place.end <= place.start {
         return parts::refuse(30);
     }
-    let size = place.end - place.start;
-    let stored = parts::clip(image, place.start, size);
+    let stored = parts::clip(image, place.start, place.end - place.start);
     // the token is all of the action
     let shown = parts::clip(request, 27, request.len());
     if !text::same(stored, shown) {
@@ -165,11 +164,7 @@ pub fn abandon_collection(
     if a.owner_generation != x.generation {
         return parts::refuse(6);
     }
-    let left = Table {
-        at: jobs.at,
-        size: parts::less(jobs.size, size),
-        count: parts::less(jobs.count, 1),
-    };
+    let left = edits::after_remove(jobs, place);
     let c2 = contents_after(c, x, n.physically_collected_through, root, roots, left);
     let ahead = parts::less(place.start, c.intents.at);
     let body = [0, c.intents.at, ahead, 0, place.end, image.len()];

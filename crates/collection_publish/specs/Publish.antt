@@ -48,12 +48,12 @@ use Rattle.next.specs.Peeks.{skip-to}
 use Rattle.next.specs.Edit.{job-codes, permit-codes, run-ahead, run-behind, past-place, start-is, end-is}
 use Rattle.reserved.specs.Located.{locatedIn, reserved-here}
 use Rattle.edits.specs.Changes.{afterInsert, afterRemove}
-use Rattle.edits.specs.ChangeLaws.{insert-shown, remove-shown}
+use Rattle.edits.specs.ChangeLaws.{insert-shown}
 use Rattle.publication.specs.References.{reference-long}
 use Rattle.publication.specs.Stays.{tables-bounded, request-bounded}
 use Rattle.collection.specs.After.{contentsAfter, after-shows}
 use Rattle.collection.specs.Tests.{root-stored}
-use Rattle.collection.specs.Jobs.{job-long, jobs-here, jobs-start, tables-low, job-found, no-job, some-job, job-same}
+use Rattle.collection.specs.Jobs.{jobs-here, jobs-start, tables-low, job-found, no-job, some-job, job-same, job-gone}
 use Rattle.collection_jobs.specs.Input.{rootPlace, manifestEnd, manifest-end, manifest-run, root-found, input-stands}
 use Rattle.collection_jobs.specs.Refusals.{or-else}
 use Rattle.collection_jobs.specs.Rules.{told, told-no, else-cond}
@@ -357,9 +357,7 @@ module _ {x q : List ℕ} {c : Contents} {y : ContextAt} {g : FaultsAt} {a : Rec
           jobs-shown : Shown left (all job-row (remove id (s .collection-jobs))) (length (remove id (s .collection-jobs)))
           jobs-shown =
               subst (λ (t : Table). Shown t (all job-row (remove id (s .collection-jobs))) (length (remove id (s .collection-jobs)))) (sym shrunk)
-              (remove-shown (codes job) job-row x (intents-at s) (jobs-at s) (before-jobs s []) (s .collection-jobs) [] (jobs-here s x (pre .image-is)) (jobs-start s x (pre .image-is)) (tables-low s x (pre .image-is))
-              (jobs-stored s (pre .formed) .hopped) id gone gone-found job-long (jobs-stored s (pre .formed) .ascending) (c .jobs)
-              (ap (λ (k : Contents). k .jobs .size) (pre .opened)) (ap (λ (k : Contents). k .jobs .count) (pre .opened)))
+              (job-gone s x (pre .image-is) (pre .formed) c (pre .opened) id gone (gone-at ∙ ap (jobPlace x c) id-is))
 
           pub published-shows : (c′ : Contents) → c′ ≡ contents-then c → Shows x q 0 c′ (set-revision (positionOf (y .position)) (collection-published s token output))
           published-shows c′ e =
