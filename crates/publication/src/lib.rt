@@ -21,7 +21,7 @@ use tables::Place;
 const MAYBE_REFERENCE: [u8; 5] = [15, 9, 128, 8, 64];
 
 // The option of a reference that stands at a place.
-fn option_at<'a>(s: &'a [u8], at: usize) -> &'a [u8]
+pub fn option_at<'a>(s: &'a [u8], at: usize) -> &'a [u8]
     ensures { λ r. ⌜ now r ≡ optionAt (now (s .entry)) at ⌝ }
 {
     let end = tables::skip_record(&MAYBE_REFERENCE, s, at);
@@ -29,7 +29,7 @@ fn option_at<'a>(s: &'a [u8], at: usize) -> &'a [u8]
 }
 
 // Whether the row at a place has, after its first bytes, just what the option has after its flag.
-fn is_expected(s: &[u8], p: Place, first: usize, expected: &[u8]) -> bool
+pub fn is_expected(s: &[u8], p: Place, first: usize, expected: &[u8]) -> bool
     ensures { λ r. ⌜ r ≡ sameOf (drop first (run (now (s .entry)) (p .start) (p .end - p .start))) (drop 1 (now (expected .entry))) ⌝ }
 {
     edits::row_holds(s, p, first, parts::clip(expected, 1, expected.len()))

@@ -1,0 +1,157 @@
+-- On the row of a stored intent, the tests over bytes are those of the rule.
+use Prim.Native.Nat.{ℕ, _+_, _-_}
+use native.Mathlib.Omega.{arith}
+use mathlib.Core.Bool.{Bool, true, false, not, cond, _&&_}
+use mathlib.Core.List.{List, [], _∷_, _++_, append-assoc}
+use mathlib.Core.Option.{Option, none, some}
+use mathlib.Core.Path.{_≡_, refl, sym, ap, _∙_}
+use lib.Dec.{eqb}
+use lib.ListN.{length, take, drop, length-append}
+use lib.Seq.{take-append-seam, drop-append-seam, drop-nil}
+use Rattle.text.specs.Same.{sameOf}
+use Rattle.parts.specs.Digits.{digits, value}
+use Rattle.parts.specs.DigitLaws.{length-digits}
+use Rattle.state.specs.Maps.{Text, Map, lookup, is-some, is-empty, same-option, contains}
+use Rattle.state.specs.Sorted.{Ascending}
+use Rattle.state.specs.Places.{at}
+use Rattle.state.specs.Records.{ObjectReference, PreparedPublication, reference-eq}
+use Rattle.fields.specs.Format.{_▹_, enc, enc-text, option, all, Within}
+use Rattle.fields.specs.Codes.{codes, skip, codeOf, codesOf, set-most, key-limit}
+use Rattle.fields.specs.Rows.{text-here}
+use Rattle.sets.specs.Sets.{set-of, set-of-enc}
+use Rattle.image.specs.Shapes.{short, u64, name, keys, reference, prepared, reference-parts, prepared-parts, each-option}
+use Rattle.image.specs.Layout.{row-of}
+use Rattle.image.specs.Tables.{intent-row}
+use Rattle.image.specs.Stored.{Stored}
+use Rattle.image.specs.SameBytes.{same-reference, same-prior}
+use Rattle.machine.specs.Machine.{fails, intent-matches}
+use Rattle.next.specs.Edit.{Standing, absent, present, standing}
+use Rattle.next.specs.Peeks.{skip-to, number-here}
+use Rattle.publication.specs.References.{HeldWithin, row-rest}
+use Rattle.intents.specs.StoredIntent.{from-manifest, from-root, from-prior, matchesIn, statusIn}
+use Rattle.intents.specs.PublishRule.{first-of}
+
+abbrev pub held-intent : Option PreparedPublication → List ℕ
+held-intent none = []
+held-intent (some v) = enc prepared (prepared-parts v)
+
+abbrev pub IntentWithin : Option PreparedPublication → Type 0
+IntentWithin none = Unit {0}
+IntentWithin (some v) = Within prepared (prepared-parts v)
+
+pub intent-held : (k : Text) (m : Map PreparedPublication) → Ascending m → drop (length k + 1) (all intent-row (at k m)) ≡ held-intent (lookup k m)
+unfolding all
+intent-held k m a = go (standing k m a)
+  where
+    go : Standing k m → drop (length k + 1) (all intent-row (at k m)) ≡ held-intent (lookup k m)
+    go (absent e l) = rw (e, l) (drop-nil (length k + 1))
+    go (present v e l) = rw (e, l) (row-rest short prepared (k, prepared-parts v))
+
+pub intent-within : (m : Map PreparedPublication) → Stored short prepared (row-of prepared-parts) m → (k : Text) → IntentWithin (lookup k m)
+intent-within m st k = go (lookup k m) refl
+  where
+    go : (o : Option PreparedPublication) → lookup k m ≡ o → IntentWithin o
+    go none e = tt
+    go (some v) e = st .found k v e .1 .1
+
+owner-codes : codesOf (8 ∷ 10 ∷ []) ≡ codes (u64 ▹ keys)
+unfolding codesOf codeOf codes
+owner-codes = refl
+
+manifest-codes : codesOf (9 ∷ 128 ∷ 8 ∷ 64 ∷ []) ≡ codes reference
+unfolding codesOf codeOf codes
+manifest-codes = refl
+
+name-codes : codesOf (64 ∷ []) ≡ codes name
+unfolding codesOf codeOf codes
+name-codes = refl
+
+front-part : (a b : List ℕ) → take (length (a ++ b) - length b) (a ++ b) ≡ a
+front-part a b = let z : length (a ++ b) - length b ≡ length a = omega (arith, length-append a b) in ap (λ (n : ℕ). take n (a ++ b)) z ∙ take-append-seam a b
+
+text-first : (t r : List ℕ) → text-here (enc-text t ++ r) ≡ t
+unfolding text-here enc-text
+text-first t r = take-append-seam t r
+
+in-order : (a b c d : Bool) → (a && (b && (c && d))) ≡ (a && b && c && d)
+in-order false b c d = refl
+in-order true false c d = refl
+in-order true true c d = refl
+
+module _ (v : PreparedPublication) (manifest : ObjectReference) (root : Text) (prior : Option ObjectReference)
+    (w : Within prepared (prepared-parts v)) (wm : Within reference (reference-parts manifest)) (wp : HeldWithin prior)
+  where
+    abbrev row : List ℕ
+    row = enc prepared (prepared-parts v)
+
+    abbrev r : List ℕ
+    r = enc reference (reference-parts (v .intent .manifest))
+
+    abbrev d : List ℕ
+    d = enc-text (v .intent .destination-root) ++ enc (option reference) (each-option reference-parts (v .intent .expected-prior-root))
+
+    split-row : row ≡ enc (u64 ▹ keys) (v .owner-generation, v .intent .object-keys) ++ (r ++ d)
+    unfolding enc
+    split-row = sym (append-assoc (digits 8 (v .owner-generation)) (enc keys (v .intent .object-keys)) (r ++ d))
+
+    at-manifest : from-manifest row ≡ r ++ d
+    at-manifest = (λ i. skip 0 (owner-codes i) (split-row i)) ∙ skip-to (u64 ▹ keys) (v .owner-generation, v .intent .object-keys) (r ++ d)
+
+    at-root : from-root (from-manifest row) ≡ d
+    at-root = (λ i. skip 0 (manifest-codes i) (at-manifest i)) ∙ skip-to reference (reference-parts (v .intent .manifest)) d
+
+    at-prior : from-prior (from-root (from-manifest row)) ≡ enc (option reference) (each-option reference-parts (v .intent .expected-prior-root))
+    unfolding enc
+    at-prior = (λ i. skip 0 (name-codes i) (at-root i)) ∙ skip-to name (v .intent .destination-root) (enc (option reference) (each-option reference-parts (v .intent .expected-prior-root)))
+
+    keys-there : set-of (drop 8 row) ≡ v .intent .object-keys
+    unfolding enc
+    keys-there =
+        ap (λ (n : ℕ). set-of (drop n row)) (sym (length-digits 8 (v .owner-generation)))
+        ∙ ap set-of (drop-append-seam (digits 8 (v .owner-generation)) (enc keys (v .intent .object-keys) ++ (r ++ d)))
+        ∙ set-of-enc set-most key-limit (v .intent .object-keys) (r ++ d) (w .1 .0)
+
+    pub matches-is : matchesIn row (enc reference (reference-parts manifest)) root (enc (option reference) (each-option reference-parts prior)) (manifest .key) ≡ intent-matches root prior manifest v
+    unfolding matchesIn intent-matches
+    matches-is =
+        (λ i. sameOf (take (length (at-manifest i) - length (at-root i)) (at-manifest i)) (enc reference (reference-parts manifest))
+        && (sameOf (text-here (at-root i)) root && (sameOf (at-prior i) (enc (option reference) (each-option reference-parts prior)) && contains (manifest .key) (keys-there i))))
+        ∙ (λ i. sameOf (front-part r d i) (enc reference (reference-parts manifest))
+        && (sameOf (text-first (v .intent .destination-root) (enc (option reference) (each-option reference-parts (v .intent .expected-prior-root))) i) root
+        && (same-prior (v .intent .expected-prior-root) prior (w .1 .1 .1 .1) wp i && contains (manifest .key) (v .intent .object-keys))))
+        ∙ ap (λ (t : Bool). t && (sameOf (v .intent .destination-root) root && (same-option reference-eq (v .intent .expected-prior-root) prior && contains (manifest .key) (v .intent .object-keys))))
+        (same-reference (v .intent .manifest) manifest (w .1 .1 .0) wm)
+        ∙ in-order (reference-eq (v .intent .manifest) manifest) (sameOf (v .intent .destination-root) root) (same-option reference-eq (v .intent .expected-prior-root) prior) (contains (manifest .key) (v .intent .object-keys))
+
+    owner-there : value (take 8 row) ≡ v .owner-generation
+    unfolding enc
+    owner-there = number-here (v .owner-generation) (enc keys (v .intent .object-keys) ++ (r ++ d)) (w .0)
+
+    row-full : is-empty row ≡ false
+    unfolding enc digits
+    row-full = refl
+
+none-case : (w a : Bool) → _≡_ {A = ℕ} (cond w 0 4) (first-of false (not a && false) (not w && true))
+none-case true true = refl
+none-case true false = refl
+none-case false true = refl
+none-case false false = refl
+
+some-case : (m a e w : Bool) → _≡_ {A = ℕ} (cond m (cond a 0 (cond e 0 6)) 5) (first-of (not m) (not a && not e) (not w && false))
+some-case false a e w = refl
+some-case true true e true = refl
+some-case true true e false = refl
+some-case true false true true = refl
+some-case true false true false = refl
+some-case true false false w = refl
+
+pub status-is : (o : Option PreparedPublication) (manifest : ObjectReference) (root : Text) (prior : Option ObjectReference) (g : ℕ) (without across : Bool)
+    → IntentWithin o → Within reference (reference-parts manifest) → HeldWithin prior
+    → statusIn (held-intent o) (enc reference (reference-parts manifest)) root (enc (option reference) (each-option reference-parts prior)) (manifest .key) g without across
+    ≡ first-of (fails (intent-matches root prior manifest) o) (not across && fails (λ p. eqb (p .owner-generation) g) o) (not without && not (is-some o))
+unfolding statusIn
+status-is none manifest root prior g without across w wm wp = none-case without across
+status-is (some v) manifest root prior g without across w wm wp =
+    (λ i. cond (row-full v manifest root prior w wm wp i) (cond without 0 4)
+    (cond (matches-is v manifest root prior w wm wp i) (cond across 0 (cond (eqb (owner-there v manifest root prior w wm wp i) g) 0 6)) 5))
+    ∙ some-case (intent-matches root prior manifest v) across (eqb (v .owner-generation) g) without
