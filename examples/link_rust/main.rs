@@ -1,0 +1,88 @@
+//! Steps the authority through libokv.a by the frames of standard input, which `tools/okv frames SCRIPT` writes. Prints
+//! a line for each frame: its step, the number answered, the lengths of image and outcome, and what validation says of
+//! the newest lease token. Writes the last image and outcome to the two files that its arguments name.
+use std::io::Read;
+
+/// The functions of include/okv.h over slices. An error is the number of the refusal.
+mod okv {
+    mod c {
+        extern "C" {
+            pub fn okv_default(image: *mut u8, image_room: usize, length: *mut usize) -> u32;
+            pub fn okv_test(image: *const u8, image_size: usize) -> u32;
+            pub fn okv_apply(
+                image: *const u8, image_size: usize, request: *const u8, request_size: usize,
+                next: *mut u8, next_room: usize, outcome: *mut u8, outcome_room: usize,
+                image_length: *mut usize, outcome_length: *mut usize,
+            ) -> u32;
+            pub fn okv_validate(image: *const u8, image_size: usize, token: *const u8, token_size: usize) -> u32;
+        }
+    }
+
+    fn answer<T>(status: u32, value: T) -> Result<T, u32> {
+        if status == 0 { Ok(value) } else { Err(status) }
+    }
+
+    /// The length of the default image, written.
+    pub fn default(image: &mut [u8]) -> Result<usize, u32> {
+        let mut length = 0;
+        let status = unsafe { c::okv_default(image.as_mut_ptr(), image.len(), &mut length) };
+        answer(status, length)
+    }
+
+    pub fn test(image: &[u8]) -> Result<(), u32> {
+        answer(unsafe { c::okv_test(image.as_ptr(), image.len()) }, ())
+    }
+
+    /// The lengths of the next image and of the outcome, both written.
+    pub fn apply(image: &[u8], request: &[u8], next: &mut [u8], outcome: &mut [u8]) -> Result<(usize, usize), u32> {
+        let (mut n, mut m) = (0, 0);
+        let status = unsafe {
+            c::okv_apply(
+                image.as_ptr(), image.len(), request.as_ptr(), request.len(),
+                next.as_mut_ptr(), next.len(), outcome.as_mut_ptr(), outcome.len(), &mut n, &mut m,
+            )
+        };
+        answer(status, (n, m))
+    }
+
+    pub fn validate(image: &[u8], token: &[u8]) -> Result<(), u32> {
+        answer(unsafe { c::okv_validate(image.as_ptr(), image.len(), token.as_ptr(), token.len()) }, ())
+    }
+}
+
+/// The request of the first frame, and the frames after it.
+fn next_frame(frames: &[u8]) -> Option<(&[u8], &[u8])> {
+    let (size, rest) = frames.split_first_chunk::<4>()?;
+    rest.split_at_checked(u32::from_le_bytes(*size) as usize)
+}
+
+fn number<T>(answer: Result<T, u32>) -> u32 {
+    answer.err().unwrap_or(0)
+}
+
+fn main() -> std::io::Result<()> {
+    let (mut next, mut outcome) = (vec![0; 65535], vec![0; 8192]);
+    let length = okv::default(&mut next).expect("room for the default image");
+    let (mut image, mut last, mut token) = (next[..length].to_vec(), vec![], vec![]);
+    assert_eq!(okv::test(&image), Ok(()));
+    let mut input = vec![];
+    std::io::stdin().read_to_end(&mut input)?;
+    let (mut frames, mut step) = (&input[..], 0);
+    println!("step status image outcome token");
+    while let Some((request, rest)) = next_frame(frames) {
+        (frames, step) = (rest, step + 1);
+        let answer = okv::apply(&image, request, &mut next, &mut outcome);
+        if let Ok((n, m)) = answer {
+            (image, last) = (next[..n].to_vec(), outcome[..m].to_vec());
+            // outcomes 2 and 3, LeaseAcquired and LeaseRenewed, are this byte and the token
+            if matches!(last[0], 2 | 3) {
+                token = last[1..].to_vec();
+            }
+        }
+        let (n, m) = answer.unwrap_or((0, 0));
+        println!("{step} {} {n} {m} {}", number(answer), number(okv::validate(&image, &token)));
+    }
+    let mut paths = std::env::args().skip(1);
+    std::fs::write(paths.next().expect("a path for the image"), image)?;
+    std::fs::write(paths.next().expect("a path for the outcome"), last)
+}
