@@ -1,0 +1,85 @@
+//! The library's calls, and the Rust doing the same.
+use crate::wire::{Reader, Request, Wire};
+use okv_publication::*;
+
+#[link(name = "okv", kind = "static")]
+extern "C" {
+    fn okv_test(image: *const u8, size: usize) -> u32;
+    fn okv_apply(
+        image: *const u8,
+        image_size: usize,
+        request: *const u8,
+        request_size: usize,
+        next: *mut u8,
+        next_room: usize,
+        outcome: *mut u8,
+        outcome_room: usize,
+        image_length: *mut usize,
+        outcome_length: *mut usize,
+    ) -> u32;
+    fn okv_validate(image: *const u8, size: usize, token: *const u8, token_size: usize) -> u32;
+}
+
+/// The slices that are lent to every call.
+pub struct Lent {
+    pub next: [u8; 65535],
+    pub outcome: [u8; 8192],
+}
+
+pub fn test(image: &[u8]) -> u32 {
+    unsafe { okv_test(image.as_ptr(), image.len()) }
+}
+
+pub fn validate(image: &[u8], token: &[u8]) -> u32 {
+    unsafe { okv_validate(image.as_ptr(), image.len(), token.as_ptr(), token.len()) }
+}
+
+/// The number answered and both lengths.
+pub fn apply(image: &[u8], request: &[u8], lent: &mut Lent) -> (u32, usize, usize) {
+    let (mut n, mut m) = (0, 0);
+    let (next, outcome) = (&mut lent.next, &mut lent.outcome);
+    let status = unsafe {
+        okv_apply(
+            image.as_ptr(),
+            image.len(),
+            request.as_ptr(),
+            request.len(),
+            next.as_mut_ptr(),
+            next.len(),
+            outcome.as_mut_ptr(),
+            outcome.len(),
+            &mut n,
+            &mut m,
+        )
+    };
+    (status, n, m)
+}
+
+/// The Rust's job on the same bytes. Where it accepts, it fills both slices.
+pub fn rust_apply(image: &[u8], request: &[u8], next: &mut Vec<u8>, outcome: &mut Vec<u8>) -> u32 {
+    next.clear();
+    outcome.clear();
+    let mut state: PublicationAuthorityState = Reader(image).get();
+    let Request { context, action, .. } = Reader(request).get();
+    let t = state.apply(&action, context, PublicationAuthorityFaults::default());
+    if let Some(o) = t.outcome {
+        state.write(next);
+        o.write(outcome);
+    }
+    t.status as u32
+}
+
+pub fn rust_validate(image: &[u8], token: &[u8]) -> bool {
+    let state: PublicationAuthorityState = Reader(image).get();
+    state.validate_active_snapshot_lease(&Reader(token).get()).is_ok()
+}
+
+/// The Rust's job on a state that it has in memory and keeps.
+pub fn rust_step(
+    state: &PublicationAuthorityState,
+    request: &Request,
+) -> (PublicationAuthorityState, PublicationTransition) {
+    let mut next = state.clone();
+    let t = next.apply(&request.action, request.context, PublicationAuthorityFaults::default());
+    (next, t)
+}
