@@ -1,6 +1,6 @@
 //! The layout of document 01 read into the Rust's values and written from them, as quickly as plain Rust does it: one
-//! pass each way, each text tested for UTF-8 and copied once, nothing else tested, maps and sets built in bulk from rows
-//! in order, and bytes written into slices that are kept between calls.
+//! pass each way, each text tested for UTF-8 and copied as often as the state holds it, nothing else tested, maps and
+//! sets built in bulk from rows in order, and bytes written into buffers that are kept between calls.
 use okv_publication::*;
 use serde::de::value::Error;
 use serde::de::{DeserializeSeed, Deserializer, SeqAccess, Visitor};
