@@ -1,6 +1,7 @@
 //! Steps the authority through libokv.a by the frames of standard input, which `tools/okv frames SCRIPT` writes. Prints
 //! a line for each frame: its step, the number answered, the lengths of image and outcome, and what validation says of
-//! the newest lease token. Writes the last image and outcome to the two files that its arguments name.
+//! the newest lease token (41 while there is none). Writes the last image and outcome to the two files that its arguments
+//! name.
 use std::io::Read;
 
 /// The functions of include/okv.h over slices. An error is the number of the refusal.
