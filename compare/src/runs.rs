@@ -1,0 +1,276 @@
+//! The runs: histories, full tables, full images, damaged bytes, and okvstep. A seed gives one run.
+use crate::actions::{plain, Flags, ACTIONS};
+use crate::aim::damaged;
+use crate::counts::{all_came, grown_by};
+use crate::damage::every;
+use crate::decode::Request;
+use crate::encode;
+use crate::held::{Held, Lend};
+use crate::limits::*;
+use crate::oracle::{self, Transition};
+use crate::states::{filling, fillings, Fill, FILLING, FILLING_MOST};
+use crate::values::{Gen, Shape, Texts};
+use okv_publication::*;
+
+/// Plays run after run until there are so many calls, and says whether all came that must.
+pub fn play(seed: u64, calls: u64) -> bool {
+    let mut held = Held::default();
+    for room in [0, 1, 156, 157, 158, IMAGE, IMAGE + 1] {
+        held.default_image(room);
+    }
+    for end in ends() {
+        held.steps(Vec::new(), end);
+    }
+    let mut runs = 0;
+    while held.counts.calls() < calls {
+        held.seed = seed.wrapping_add(runs);
+        held.step = 0;
+        one(&mut held, runs);
+        runs += 1;
+    }
+    println!("{} calls in {runs} runs from seed {seed}, no difference", held.counts.calls());
+    held.counts.print();
+    let missing = [held.counts.missing_answers(), held.counts.missing_limits()].concat();
+    all_came(&missing)
+}
+
+const SMALL: Shape = Shape { ids: 4, texts: Texts::Short, odds: 12 };
+const MANY: Shape = Shape { ids: 90, texts: Texts::Mixed, odds: 12 };
+const LONG: Shape = Shape { ids: 40, texts: Texts::Full, odds: 20 };
+
+fn one(held: &mut Held, run: u64) {
+    let g = &mut Gen::new(held.seed, if run % 16 < 8 { SMALL } else { MANY });
+    if run % 256 == 0 {
+        sweep(held, g);
+    }
+    match run % 8 {
+        0 => history(held, g, PublicationAuthorityState::default(), 300),
+        1 => built(held, g, 20, false),
+        2 => built(held, g, 5, true),
+        3 => tables(held, g),
+        4 => lengths(held, g),
+        5 | 6 => damage(held, g),
+        _ => steps(held, g),
+    }
+}
+
+/// Requests one after another, each on what the one before left, and tokens that were given on the way.
+fn history(held: &mut Held, g: &mut Gen, mut state: PublicationAuthorityState, length: usize) {
+    let flags = g.rng.pick(&[Flags::Off, Flags::Any]);
+    let mut tokens = Tokens::default();
+    for _ in 0..length {
+        held.step += 1;
+        let image = encode::image(&state).bytes;
+        let request = encode::request(&g.request(&state, flags)).bytes;
+        let lend = if g.rng.one_in(4) { Lend::Tight } else { Lend::Ample };
+        if let Some(next) = held.apply(&image, &request, lend) {
+            state = next;
+        }
+        let image = encode::image(&state).bytes;
+        held.validate(&image, &encode::token(&g.token(&state)).bytes);
+        tokens.see(&state);
+        if let Some(token) = tokens.pick(held, g, &state) {
+            held.validate(&image, &encode::token(&token).bytes);
+        }
+    }
+}
+
+/// The tokens of a history: of leases that live, that were renewed since, and that ended.
+#[derive(Default)]
+struct Tokens {
+    live: Vec<SnapshotLeaseToken>,
+    ended: Vec<SnapshotLeaseToken>,
+}
+
+impl Tokens {
+    fn see(&mut self, state: &PublicationAuthorityState) {
+        let (live, ended): (Vec<_>, Vec<_>) =
+            self.live.drain(..).partition(|token| state.leases.contains_key(&token.lease_id));
+        self.live = live;
+        self.ended.extend(ended);
+        for token in state.leases.values() {
+            if !self.live.contains(token) {
+                self.live.push(token.clone());
+            }
+        }
+    }
+
+    fn pick(
+        &self,
+        held: &mut Held,
+        g: &mut Gen,
+        state: &PublicationAuthorityState,
+    ) -> Option<SnapshotLeaseToken> {
+        let from = if g.rng.one_in(2) { &self.live } else { &self.ended };
+        if from.is_empty() {
+            return None;
+        }
+        let token = g.rng.pick(from);
+        if self.ended.contains(&token) && state.leases.contains_key(&token.lease_id) {
+            held.counts.used_anew += 1;
+        }
+        Some(token)
+    }
+}
+
+/// Short histories from states that were built directly.
+fn built(held: &mut Held, g: &mut Gen, states: usize, crowded: bool) {
+    for _ in 0..states {
+        let state = g.state(crowded);
+        history(held, g, state, 15);
+    }
+}
+
+/// Each action that can make a table longer, on one that is full and on one that is one short of it.
+fn tables(held: &mut Held, g: &mut Gen) {
+    for action in 1..=ACTIONS {
+        let Some(table) = grown_by(action) else { continue };
+        // a collection that makes a new root needs a job on a root that is not there, and a flag
+        let states = if action == 10 { 20 } else { 4 };
+        for fill in [Fill::OneShort, Fill::Full] {
+            for _ in 0..states {
+                held.step += 1;
+                let state = g.filled(table, fill);
+                let image = encode::image(&state).bytes;
+                for flags in [Flags::Off, Flags::Any, Flags::Any] {
+                    let request = g.request_of(action, &state, flags);
+                    held.apply(&image, &encode::request(&request).bytes, Lend::Ample);
+                }
+            }
+        }
+    }
+}
+
+/// Images, and next images, of 65,535 bytes and of one more.
+fn lengths(held: &mut Held, g: &mut Gen) {
+    for _ in 0..12 {
+        held.step += 1;
+        let crowded = g.rng.one_in(3);
+        let state = g.state(crowded);
+        let request = g.request(&state, Flags::Any);
+        let now = encode::image(&state).bytes.len();
+        for length in [IMAGE, IMAGE + 1] {
+            filled_up(held, &state, &request, length.saturating_sub(now));
+            if let Transition::Accepted { next, .. } =
+                oracle::transition(&Ok(state.clone()), &Ok(request.clone()))
+            {
+                filled_up(held, &state, &request, length.saturating_sub(next.len()));
+            }
+        }
+    }
+}
+
+fn filled_up(held: &mut Held, state: &PublicationAuthorityState, request: &Request, bytes: usize) {
+    let mut state = state.clone();
+    state.intents.extend(fillings(bytes));
+    let image = encode::image(&state).bytes;
+    held.test(&image);
+    held.apply(&image, &encode::request(request).bytes, Lend::Tight);
+}
+
+/// Damaged images, requests and tokens.
+fn damage(held: &mut Held, g: &mut Gen) {
+    for _ in 0..20 {
+        let crowded = g.rng.one_in(10);
+        let state = g.state(crowded);
+        let image = encode::image(&state);
+        for _ in 0..15 {
+            held.step += 1;
+            let request = encode::request(&g.request(&state, Flags::Any));
+            let token = encode::token(&g.token(&state));
+            let other_image = damaged(&mut g.rng, &image, true);
+            let other_request = damaged(&mut g.rng, &request, false);
+            let other_token = damaged(&mut g.rng, &token, false);
+            held.test(&other_image);
+            held.apply(&other_image, &request.bytes, Lend::Ample);
+            held.validate(&other_image, &token.bytes);
+            held.apply(&image.bytes, &other_request, Lend::Ample);
+            held.validate(&image.bytes, &other_token);
+            held.apply(&other_image, &other_request, Lend::Ample);
+            held.validate(&other_image, &other_token);
+        }
+    }
+}
+
+/// All that can be done to one place of an image, of a request of each action, and of a token.
+fn sweep(held: &mut Held, g: &mut Gen) {
+    let mut state = g.state(false);
+    while sizes(&state).contains(&0) || state.collection_root.is_none() {
+        state = g.state(false);
+    }
+    let image = encode::image(&state);
+    let request = encode::request(&g.request(&state, Flags::Off)).bytes;
+    every(&image, true, |damaged| {
+        held.step += 1;
+        held.test(damaged);
+        held.apply(damaged, &request, Lend::Ample);
+    });
+    for action in 1..=ACTIONS {
+        let request = encode::request(&g.request_of(action, &state, Flags::Off));
+        every(&request, false, |damaged| {
+            held.step += 1;
+            held.apply(&image.bytes, damaged, Lend::Ample);
+        });
+    }
+    for token in state.leases.values() {
+        every(&encode::token(token), false, |damaged| {
+            held.step += 1;
+            held.validate(&image.bytes, damaged);
+        });
+    }
+}
+
+/// A history for okvstep, with images at its limit, and an end that is good or bad.
+fn steps(held: &mut Held, g: &mut Gen) {
+    g.shape = g.rng.pick(&[SMALL, LONG, LONG]);
+    let flags = g.rng.pick(&[Flags::Off, Flags::Any]);
+    let mut state = PublicationAuthorityState::default();
+    let mut frames = Vec::new();
+    for step in 0..120 {
+        held.step += 1;
+        // now and then an intent that takes the image towards its limit, just to it, or one byte past it
+        let target = STEP_IMAGE + g.rng.index(2);
+        let left = target.saturating_sub(encode::image(&state).bytes.len());
+        let request = if left >= FILLING && g.rng.one_in(4) {
+            let (publication_id, prepared) = filling(step, left.min(FILLING_MOST));
+            plain(PublicationAction::Prepare { publication_id, intent: prepared.intent })
+        } else {
+            g.request(&state, flags)
+        };
+        let transition = oracle::transition(&Ok(state.clone()), &Ok(request.clone()));
+        if let Transition::Accepted { next, .. } = &transition {
+            held.counts.length("okvstep", next.len(), STEP_IMAGE);
+        }
+        if let Some(next) = transition.left(STEP_IMAGE, STEP_OUTCOME) {
+            state = next;
+        }
+        let frame = encode::request(&request);
+        if g.rng.one_in(20) {
+            frames.push(damaged(&mut g.rng, &frame, false));
+        }
+        frames.push(frame.bytes);
+    }
+    let end = g.rng.pick(&ends());
+    held.steps(frames, end);
+}
+
+/// Nothing, a frame as long as may be or of no bytes, or one that is cut or too long.
+fn ends() -> Vec<Vec<u8>> {
+    let frame = |size: usize, bytes: usize| {
+        let mut frame = (size as u32).to_le_bytes().to_vec();
+        frame.resize(4 + bytes, 1);
+        frame
+    };
+    vec![
+        Vec::new(),
+        frame(FRAME, FRAME),
+        frame(FRAME + 1, FRAME + 1),
+        frame(0, 0),
+        vec![1],
+        vec![1; 3],
+        frame(1, 0),
+        frame(100, 99),
+        frame(FRAME, FRAME - 1),
+        frame(u32::MAX as usize, 10),
+    ]
+}
