@@ -40,12 +40,16 @@ use Rattle.next.specs.Head.{Small}
 use Rattle.next.specs.Shows.{Shows}
 use Rattle.next.specs.Kept.{run-to, run-rest, tables-here, before-leases, leases-seam, small-here}
 use Rattle.next.specs.Call.{Ready, ruled}
+use Rattle.next.specs.Due.{due, endedIds}
+use Rattle.next.specs.Outcome.{expiredBytes, outcomeBytes}
+use Rattle.next.specs.declared.LeasesExpired.{LeasesExpired as LeasesExpiredAt}
+use Rattle.next.specs.declared.PublicationOutcome.{PublicationOutcome}
 use Rattle.floor.specs.Floors.{policyFor, readableFor}
 use Rattle.leases.specs.Oldest.{oldestKept}
 use Rattle.leases.specs.Leased.{withLeases, Recomputed, recomputed, small-leases, table-count-low}
-use Rattle.clock.specs.Due.{due, keptBytes, endedIds, endedCount, ends-by, kept-rows, ids-rows, count-rows, oldest-rows}
+use Rattle.clock.specs.Due.{keptBytes, endedCount, ends-by, kept-rows, ids-rows, count-rows, oldest-rows}
 use Rattle.clock.specs.Tallies.{tallyOf}
-use Rattle.clock.specs.Parts.{BodyIs, ToldIs}
+use Rattle.clock.specs.Parts.{BodyIs}
 use Rattle.clock.specs.declared.Tally.{Tally}
 
 module _ (s : State) (expected next : ℕ) (x : AuthorityContext) (g : PublicationAuthorityFaults) where
@@ -150,7 +154,7 @@ module _ (s : State) (x : List ℕ) (e : encodeImage s ≡ x) (w : Formed s) (ti
   tables-left =
       (λ i. (before-run i ++ kept-here i) ++ after-run i) ∙ append-assoc (before-leases s []) (all lease-row left) (from-jobs s) ∙ sym (leases-seam s [] (all lease-row left ++ from-jobs s))
 
-  told-here : length ids < 256 → (digits 1 4 ++ digits 1 (length ids)) ++ endedIds tick rows ≡ encodeOutcome (LeasesExpired ids)
+  told-here : length ids < 256 → digits 1 4 ++ (digits 1 (length ids) ++ endedIds tick rows) ≡ encodeOutcome (LeasesExpired ids)
   unfolding digits encodeOutcome write-parts enc
   told-here h = let z : length ids % 256 ≡ length ids = omega arith in (λ i. 4 ∷ z i ∷ ids-here i)
 
@@ -180,6 +184,9 @@ module _ (s : State) (x q : List ℕ) (e : encodeImage s ≡ x) (w : Formed s) (
       (ap (λ (u : Tally). u .oldest) k ∙ oldest-left s x e w tick policy) r
       (ap (λ (u : Tally). u .size) k ∙ ap length (kept-here s x e w tick))
       (n ∙ ap (λ (j : ℕ). length (s .leases) - j) ended ∙ sym (left-count s x e w tick)))
+
+abbrev pub expiredAt : Contents → (tick ended : ℕ) → LeasesExpiredAt
+expiredAt c tick ended = record { at = c .leases .at; count = c .leases .count; tick = tick; ended = ended }
 
 -- A CALL OF IT
 module _ {x : List ℕ} {c : Contents} {q : List ℕ} {a : ContextAt} {f : FaultsAt} {l : AdvanceLeaseClockAt} (ready : Ready x c q (record { context = a; faults = f; action = PublicationAction.AdvanceLeaseClock l })) where
@@ -223,11 +230,8 @@ module _ {x : List ℕ} {c : Contents} {q : List ℕ} {a : ContextAt} {f : Fault
     advance-small h = small-leases s (ready .formed) c (ready .opened) a
         (omega (arith, ap (λ (u : Tally). u .size) tally-is, kept-low s x (ready .image-is) (ready .formed) (l .«next_tick»), small-here s (ready .formed) .5)) h
 
-    pub advance-told : {ps : List ℕ} → ToldIs (l .«next_tick») x (c .leases .at) (c .leases .count) (t .ended) ps → gatherOf x q ps ≡ encodeOutcome (LeasesExpired (expired s (l .«next_tick»)))
-    advance-told g =
-        g .gathers q
-        ∙ (λ i. (digits 1 4 ++ digits 1 (ended-is i)) ++ endedIds (l .«next_tick») (rows-at (codes lease) (ready .opened i .leases .count) (drop (ready .opened i .leases .at) x)))
-        ∙ told-here s x (ready .image-is) (ready .formed) (l .«next_tick») ended-low
+    pub advance-told : outcomeBytes x q (PublicationOutcome.LeasesExpired (expiredAt c (l .«next_tick») (t .ended))) ≡ encodeOutcome (LeasesExpired (expired s (l .«next_tick»)))
+    advance-told = (λ i. digits 1 4 ++ expiredBytes x (expiredAt (ready .opened i) (l .«next_tick») (ended-is i))) ∙ told-here s x (ready .image-is) (ready .formed) (l .«next_tick») ended-low
 
   pub advance-tables : {ps : List ℕ} → BodyIs (l .«next_tick») x (c .intents .at) (c .leases .at) (c .leases .count) (c .jobs .at) ps → gatherOf x q ps ≡ from-intents (clock-advanced s (l .«next_tick») (f .«omit_lease_root_epoch»))
   advance-tables g =

@@ -1,4 +1,4 @@
--- Which leases end, row by row: what stays of the table, and the ids of what ends.
+-- Which leases end, row by row: what stays of the table, the ids of what ends, and how many.
 use Prim.Native.Nat.{ℕ, suc, _+_, _-_, _≤_, min}
 use native.Mathlib.Omega.{arith}
 use mathlib.Core.Bool.{Bool, cond}
@@ -7,44 +7,31 @@ use mathlib.Core.Path.{_≡_, refl, sym, ap, _∙_}
 use lib.Dec.{leb}
 use lib.ListN.{length, take, drop, length-append, length-drop, length-take}
 use lib.Seq.{take-append-seam}
-use Rattle.parts.specs.Digits.{value}
 use Rattle.state.specs.Maps.{Text, Map, Every, _⟼_, key-of, keys-where}
 use Rattle.state.specs.MapLaws.{Each, by-test}
 use Rattle.state.specs.Places.{without}
 use Rattle.state.specs.Records.{SnapshotLeaseToken}
 use Rattle.fields.specs.Format.{all, enc, enc-text}
-use Rattle.fields.specs.Codes.{Code, codes, skip, codesOf}
+use Rattle.fields.specs.Codes.{codes, skip, codesOf}
 use Rattle.fields.specs.Walks.{placeOf}
 use Rattle.fields.specs.Rows.{text-here}
-use Rattle.tables.specs.Skips.{skip-rest}
 use Rattle.tables.specs.SeekLaws.{Hopped, tails}
 use Rattle.image.specs.Shapes.{lease, lease-rest, lease-parts}
 use Rattle.image.specs.Tables.{lease-row, kept}
 use Rattle.machine.specs.Formed.{LeaseAt}
 use Rattle.machine.specs.Next.{oldest}
 use Rattle.entries.specs.Sized.{image-texts}
-use Rattle.next.specs.Edit.{lease-codes}
-use Rattle.leases.specs.Rows.{before-deadline, version-row, deadline-row}
+use Rattle.next.specs.Due.{due, idOf, endedIds, next-is, rest-low}
+use Rattle.leases.specs.Rows.{version-row, deadline-row}
 use Rattle.leases.specs.Oldest.{oldestKept}
 
--- the deadline of the row at the head is reached
-abbrev pub due : ℕ → List ℕ → Bool
-due tick r = leb (value (take 8 (skip 0 before-deadline r))) tick
-
--- the bytes of the row at the head, and those of its id
+-- the bytes of the row at the head
 abbrev pub rowOf : List ℕ → List ℕ
 rowOf r = take (length r - length (skip 0 (codes lease) r)) r
-
-abbrev pub idOf : List ℕ → List ℕ
-idOf r = take (length (text-here r) + 1) r
 
 unfoldable pub keptBytes : ℕ → List (List ℕ) → List ℕ
 keptBytes tick [] = []
 keptBytes tick (r ∷ rs) = cond (due tick r) [] (rowOf r) ++ keptBytes tick rs
-
-unfoldable pub endedIds : ℕ → List (List ℕ) → List ℕ
-endedIds tick [] = []
-endedIds tick (r ∷ rs) = cond (due tick r) (idOf r) [] ++ endedIds tick rs
 
 unfoldable pub endedCount : ℕ → List (List ℕ) → ℕ
 endedCount tick [] = 0
@@ -53,23 +40,14 @@ endedCount tick (r ∷ rs) = cond (due tick r) (suc (endedCount tick rs)) (ended
 -- ---- a row that stands at p, and the next at q
 
 module _ (s : List ℕ) (p q : ℕ) (e : q ≡ placeOf s (skip 0 (codesOf (64 ∷ 64 ∷ 8 ∷ 8 ∷ 64 ∷ 64 ∷ 8 ∷ 9 ∷ 128 ∷ 8 ∷ 64 ∷ 10 ∷ 8 ∷ 8 ∷ 8 ∷ [])) (drop p s))) where
-  place-is : q ≡ placeOf s (skip 0 (codes lease) (drop p s))
-  place-is = e ∙ ap (λ (cs : List Code). placeOf s (skip 0 cs (drop p s))) lease-codes
-
-  rest-low : length (skip 0 (codes lease) (drop p s)) ≤ length (drop p s)
-  rest-low = let r = skip-rest 0 (codes lease) (drop p s) in let l = ap length (r .is) ∙ length-drop (r .bytes) (drop p s) in omega arith
-
-  pub next-low : q ≤ length s
-  next-low = omega (arith, place-is)
-
   pub row-size : p ≤ length s → q - p ≡ length (drop p s) - length (skip 0 (codes lease) (drop p s))
-  row-size h = omega (arith, place-is, rest-low, length-drop p s)
+  row-size h = omega (arith, next-is s p q e, rest-low s p q e, length-drop p s)
 
   pub next-high : p ≤ length s → p ≤ q
-  next-high h = omega (arith, place-is, rest-low, length-drop p s)
+  next-high h = omega (arith, next-is s p q e, rest-low s p q e, length-drop p s)
 
   pub row-length : p ≤ length s → length (rowOf (drop p s)) ≡ q - p
-  row-length h = simp length-take (omega (arith, row-size h, rest-low))
+  row-length h = simp length-take (omega (arith, row-size h, rest-low s p q e))
 
 -- ---- on the rows of a map
 

@@ -1,20 +1,22 @@
 // The lease clock: every lease goes whose deadline is reached.
 ghost use mathlib.Core.Bool.{cond};
-ghost use mathlib.Core.List.{_++_};
 ghost use mathlib.Core.Path.{_≡_};
 ghost use Prim.Native.Nat.{_+_, _-_, _≤_, _<_};
 ghost use lib.Dec.{eqb};
-ghost use lib.ListN.{length, drop};
+ghost use lib.ListN.{length};
 ghost use Rattle.parts.specs.Answer.{Gave};
 ghost use Rattle.parts.specs.Gather.{Filled};
 ghost use Rattle.entries.specs.Bytes.{applyBytes};
 ghost use Rattle.machine.specs.Next.{up};
 ghost use Rattle.requests.specs.declared.PublicationAction.{PublicationAction};
+ghost use Rattle.next.specs.Added.{Added};
 ghost use Rattle.next.specs.Call.{Ready};
-ghost use Rattle.clock.specs.Due.{due, keptBytes, endedIds};
+ghost use Rattle.clock.specs.Due.{keptBytes};
 ghost use Rattle.clock.specs.Tallies.{tallied, tallyOf};
-ghost use Rattle.clock.specs.Parts.{Added, BodyIs, ToldIs};
+ghost use Rattle.clock.specs.Parts.{BodyIs};
 use image::Contents;
+use next::LeasesExpired;
+use next::PublicationOutcome;
 use parts::Applied;
 use requests::AdvanceLeaseClock;
 use requests::AuthorityContext;
@@ -25,14 +27,6 @@ struct Tally {
     ended: usize,
     size: usize,
     oldest: u64,
-}
-
-// Whether the deadline of the lease at a place is reached.
-fn is_due(s: &[u8], at: usize, tick: u64) -> bool
-    ensures { λ r. ⌜ r ≡ due tick (drop at (now (s .entry))) ⌝ }
-{
-    let before = [64u8, 64, 8, 8, 64, 64];
-    leases::number_after(&before, s, at) <= tick
 }
 
 fn count_row(t: Tally, gone: bool, version: u64, len: usize) -> Tally
@@ -70,8 +64,8 @@ fn count_rows(s: &[u8], at: usize, n: usize, tick: u64, floor: u64) -> Tally
         let q = tables::skip_record(&image::LEASE, s, p);
         t = count_row(
             t,
-            is_due(s, p, tick),
-            leases::number_after(&before, s, p),
+            next::is_due(s, p, tick),
+            next::number_after(&before, s, p),
             parts::less(q, p),
         );
         p = q;
@@ -81,12 +75,6 @@ fn count_rows(s: &[u8], at: usize, n: usize, tick: u64, floor: u64) -> Tally
 }
 
 // The length of a part that is there or not.
-fn len_if(there: bool, n: usize) -> usize
-    ensures { λ r. ⌜ r ≡ cond there n 0 ⌝ }
-{
-    if there { n } else { 0 }
-}
-
 fn len_unless(gone: bool, n: usize) -> usize
     ensures { λ r. ⌜ r ≡ cond gone 0 n ⌝ }
 {
@@ -107,24 +95,9 @@ fn stays(parts: &mut [usize], s: &[u8], at: usize, n: usize, tick: u64)
             i + 1,
             0,
             p,
-            len_unless(is_due(s, p, tick), parts::less(q, p)),
+            len_unless(next::is_due(s, p, tick), parts::less(q, p)),
         );
         p = q;
-        i += 1;
-    }
-}
-
-// A part for each row, with the bytes of its id where it ends.
-fn ends(parts: &mut [usize], s: &[u8], at: usize, n: usize, tick: u64)
-    requires { ⌜ (n ≤ 64) × (length (now parts) ≡ 198) × Filled 2 (now parts) ⌝ }
-    ensures { λ r. ⌜ Added (endedIds tick) 2 (now (s .entry)) at n (now (parts .entry)) (now (parts .exit)) ⌝ }
-{
-    let mut i = 0;
-    let mut p = fields::within(s, at);
-    while i < n {
-        let id = fields::text_at(s, p);
-        parts::set_part(parts, i + 2, 0, p, len_if(is_due(s, p, tick), id.len() + 1));
-        p = tables::skip_record(&image::LEASE, s, p);
         i += 1;
     }
 }
@@ -138,17 +111,6 @@ fn body_parts(s: &[u8], first: usize, at: usize, n: usize, tick: u64, after: usi
     parts::set_part(&mut parts, 0, 0, first, parts::less(at, first));
     stays(&mut parts, s, at, n, tick);
     parts::set_part(&mut parts, n + 1, 0, after, s.len());
-    parts
-}
-
-fn told_parts(s: &[u8], at: usize, n: usize, tick: u64, ended: usize) -> [usize; 198]
-    requires { ⌜ n ≤ 64 ⌝ }
-    ensures { λ r. ⌜ ToldIs tick (now (s .entry)) at n ended r ⌝ }
-{
-    let mut parts = [0usize; 198];
-    parts::set_part(&mut parts, 0, 2, 4, 1);
-    parts::set_part(&mut parts, 1, 2, ended, 1);
-    ends(&mut parts, s, at, n, tick);
     parts
 }
 
@@ -218,6 +180,11 @@ pub fn advance_lease_clock(
         a.next_tick,
         c.jobs.at,
     );
-    let told = told_parts(image, leases.at, leases.count, a.next_tick, t.ended);
-    next::emit(0, c2, image, request, &body, &told, next, outcome)
+    let told = PublicationOutcome::LeasesExpired(LeasesExpired {
+        at: leases.at,
+        count: leases.count,
+        tick: a.next_tick,
+        ended: t.ended,
+    });
+    next::emit(0, c2, image, request, &body, told, next, outcome)
 }

@@ -13,6 +13,7 @@ use image::MaybeText;
 use image::Scalars;
 use image::Table;
 use image::TextAt;
+use next::PublicationOutcome;
 use parts::Applied;
 use requests::AuthorityContext;
 use requests::CollectionJobToken;
@@ -128,8 +129,8 @@ pub fn configure_collection_root(
         jobs,
     );
     let body = [0, c.intents.at, image.len()];
-    let told = [2, 0, 1];
-    next::emit(1, c2, image, request, &body, &told, next, outcome)
+    let told = PublicationOutcome::Applied;
+    next::emit(1, c2, image, request, &body, told, next, outcome)
 }
 
 pub fn abandon_collection(
@@ -168,6 +169,6 @@ pub fn abandon_collection(
     let c2 = contents_after(c, x, n.physically_collected_through, root, roots, left);
     let ahead = parts::less(place.start, c.intents.at);
     let body = [0, c.intents.at, ahead, 0, place.end, image.len()];
-    let told = [2, 0, 1];
-    next::emit(0, c2, image, request, &body, &told, next, outcome)
+    let told = PublicationOutcome::Applied;
+    next::emit(0, c2, image, request, &body, told, next, outcome)
 }

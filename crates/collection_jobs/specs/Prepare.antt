@@ -40,6 +40,9 @@ use Rattle.next.specs.Head.{Small}
 use Rattle.next.specs.Shows.{Shown, Shows}
 use Rattle.next.specs.Call.{Ready, ruled}
 use Rattle.next.specs.Asked.{fields-here}
+use Rattle.next.specs.Outcome.{outcomeBytes}
+use Rattle.next.specs.declared.CollectionPrepared.{CollectionPrepared as CollectionPreparedAt}
+use Rattle.next.specs.declared.PublicationOutcome.{PublicationOutcome}
 use Rattle.next.specs.Bounds.{request-small}
 use Rattle.next.specs.Kept.{run-rest, run-to, after-seam, root-here, root-size-here, small-here, before-jobs, jobs-seam}
 use Rattle.next.specs.Edit.{job-codes, run-ahead, run-behind}
@@ -53,6 +56,15 @@ use Rattle.collection_jobs.specs.Conflicts.{conflicts-here}
 use Rattle.collection_jobs.specs.Input.{inputStands, input-stands}
 use Rattle.collection_jobs.specs.Refusals.{malformedOf, or-else, prepareRefusal}
 use Rattle.collection_jobs.specs.Rules.{told, told-no, step, end, or-cond, else-cond}
+
+-- the token as it is told: the id, of so many bytes, and the rest stand in the request
+abbrev pub preparedAt : (id-length request-length : ℕ) → ContextAt → CollectionPreparedAt
+preparedAt n m y = record {
+  «job_id» = record { at = 27; len = n + 1 };
+  «owner_generation» = y .generation;
+  «authority_position» = y .position;
+  «from_floor» = record { at = n + 28; len = m };
+}
 
 -- ---- the machine's tests, as a number
 
@@ -230,7 +242,7 @@ module _ {x q : List ℕ} {c : Contents} {y : ContextAt} {g : FaultsAt} {a : Pre
           let e₂ : run q (length id + 28) (length q) ≡ rest = run-rest q rest (length id + 28) (length q) (after-seam q (enc-text asked) rest 27 (length id + 28) here (omega arith)) (omega arith) in
           (λ i. e₁ i ++ (digits 8 (y .generation) ++ (digits 8 (y .position .term) ++ (digits 8 (y .position .index) ++ e₂ i)))) ∙ simp append-assoc
 
-      pub prepared-told : gatherOf x q (2 ∷ 5 ∷ 1 ∷ 1 ∷ 27 ∷ (length id + 1) ∷ 2 ∷ y .generation ∷ 8 ∷ 2 ∷ y .position .term ∷ 8 ∷ 2 ∷ y .position .index ∷ 8 ∷ 1 ∷ (length id + 28) ∷ length q ∷ []) ≡ encodeOutcome (CollectionPrepared token)
+      pub prepared-told : outcomeBytes x q (PublicationOutcome.CollectionPrepared (preparedAt (length id) (length q) y)) ≡ encodeOutcome (CollectionPrepared token)
       unfolding encodeOutcome write-parts digits
       prepared-told =
           ap (λ (l : List ℕ). 5 ∷ (run q 27 (length id + 1) ++ (digits 8 (y .generation) ++ (digits 8 (y .position .term) ++ (digits 8 (y .position .index) ++ l))))) (append-nil (run q (length id + 28) (length q)))

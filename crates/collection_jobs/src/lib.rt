@@ -20,6 +20,9 @@ use image::Contents;
 use image::MaybeText;
 use image::Table;
 use image::TextAt;
+use next::CollectionPrepared;
+use next::PublicationOutcome;
+use next::Span;
 use parts::Applied;
 use requests::AuthorityContext;
 use requests::PrepareCollection;
@@ -270,25 +273,15 @@ pub fn prepare_collection(
         place.end,
         image.len(),
     ];
-    let told = [
-        2,
-        5,
-        1,
-        1,
-        27,
-        first,
-        2,
-        x.generation as usize,
-        8,
-        2,
-        x.position.term as usize,
-        8,
-        2,
-        x.position.index as usize,
-        8,
-        1,
-        rest,
-        request.len(),
-    ];
-    next::emit(0, c2, image, request, &body, &told, next, outcome)
+    let position = x.position;
+    let told = PublicationOutcome::CollectionPrepared(CollectionPrepared {
+        job_id: Span { at: 27, len: first },
+        owner_generation: x.generation,
+        authority_position: position,
+        from_floor: Span {
+            at: rest,
+            len: request.len(),
+        },
+    });
+    next::emit(0, c2, image, request, &body, told, next, outcome)
 }

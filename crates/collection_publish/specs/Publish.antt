@@ -43,6 +43,8 @@ use Rattle.next.specs.Head.{Small}
 use Rattle.next.specs.Shows.{Shown, Shows}
 use Rattle.next.specs.Call.{Ready, ruled}
 use Rattle.next.specs.Asked.{fields-here}
+use Rattle.next.specs.Outcome.{outcomeBytes}
+use Rattle.next.specs.declared.PublicationOutcome.{PublicationOutcome}
 use Rattle.next.specs.Kept.{run-rest, run-to, after-seam, root-here, root-size-here, small-here, before-jobs, tables-here}
 use Rattle.next.specs.Peeks.{skip-to}
 use Rattle.next.specs.Edit.{job-codes, permit-codes, run-ahead, run-behind, past-place, start-is, end-is}
@@ -238,7 +240,7 @@ module _ {x q : List ℕ} {c : Contents} {y : ContextAt} {g : FaultsAt} {a : Rec
 
     -- ---- what is written
 
-    pub published-told : gatherOf x q (2 ∷ 6 ∷ 1 ∷ 1 ∷ 27 ∷ length q ∷ []) ≡ encodeOutcome (CollectionPublished receipt)
+    pub published-told : outcomeBytes x q (PublicationOutcome.CollectionPublished (record { receipt = record { at = 27; len = length q } })) ≡ encodeOutcome (CollectionPublished receipt)
     unfolding encodeOutcome write-parts digits enc
     published-told = ap (λ (l : List ℕ). 6 ∷ l) (append-nil (run q 27 (length q)) ∙ run-rest q (token-bytes ++ (output-bytes ++ keys-bytes)) 27 (length q) here (omega arith))
 

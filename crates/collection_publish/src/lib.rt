@@ -10,6 +10,9 @@ ghost use Rattle.requests.specs.declared.PublicationAction.{PublicationAction};
 ghost use Rattle.next.specs.Call.{Ready};
 ghost use Rattle.collection_publish.specs.Refusals.{sameManifest, receiptRefusal, publishRefusal};
 use image::Contents;
+use next::CollectionPublished;
+use next::PublicationOutcome;
+use next::Span;
 use parts::Applied;
 use requests::AuthorityContext;
 use requests::CollectionReceipt;
@@ -184,6 +187,11 @@ pub fn publish_collection(
         gone.end,
         image.len(),
     ];
-    let told = [2, 6, 1, 1, 27, request.len()];
-    next::emit(0, c2, image, request, &body, &told, next, outcome)
+    let told = PublicationOutcome::CollectionPublished(CollectionPublished {
+        receipt: Span {
+            at: 27,
+            len: request.len(),
+        },
+    });
+    next::emit(0, c2, image, request, &body, told, next, outcome)
 }

@@ -36,13 +36,25 @@ use Rattle.next.specs.Call.{Ready, ruled}
 use Rattle.next.specs.Edit.{intent-codes, lease-codes}
 use Rattle.next.specs.Head.{Small}
 use Rattle.next.specs.Kept.{small-here, run-to, after-seam}
+use Rattle.next.specs.Outcome.{outcomeBytes}
 use Rattle.next.specs.Shows.{Shows}
+use Rattle.next.specs.declared.DeleteReserved.{DeleteReserved as DeleteReservedAt}
+use Rattle.next.specs.declared.PublicationOutcome.{PublicationOutcome}
 use Rattle.scans.specs.Scans.{namesAt}
 use Rattle.scans.specs.ScanLaws.{intents-name, leases-name, jobs-use}
 use Rattle.deletion.specs.Permits.{withReservations}
 use Rattle.deletion.specs.Tests.{firstOf, testsOf, reserveTests}
 use Rattle.deletion.specs.Reservations.{Located, located, none-there, some-there, size-more, count-more, tables-more, reservations-show, reservations-small}
 use Rattle.deletion.specs.Reserve.{state-tests, new, reserve-refused, reserve-exists, reserve-taken}
+
+-- the permit as it is told
+abbrev pub reservedAt : (start size plan-size : ℕ) → AuthorityContext → DeleteReservedAt
+reservedAt start size plan-size u = record {
+  «key_and_identity» = record { at = start; len = size };
+  «plan_id» = record { at = 27; len = plan-size };
+  «owner_generation» = u .generation;
+  «authority_position» = u .position;
+}
 
 tag-one : (r : List ℕ) → digits 1 1 ++ r ≡ 1 ∷ r
 unfolding digits
@@ -170,7 +182,7 @@ module _ {x : List ℕ} {c : Contents} {q : List ℕ} {u : AuthorityContext} {g 
           let l₅ = length-append w [] in
           omega (arith, rest-length, plan-length, length-digits 8 (u .generation), length-digits 8 (u .position .term), length-digits 8 (u .position .index))
 
-      pub told-made : gatherOf x q (2 ∷ 1 ∷ 1 ∷ 1 ∷ start ∷ size ∷ 1 ∷ 27 ∷ plan-size ∷ 2 ∷ u .generation ∷ 8 ∷ 2 ∷ u .position .term ∷ 8 ∷ 2 ∷ u .position .index ∷ 8 ∷ []) ≡ encodeOutcome (DeleteReserved permit-made)
+      pub told-made : outcomeBytes x q (PublicationOutcome.DeleteReserved (reservedAt start size plan-size u)) ≡ encodeOutcome (DeleteReserved permit-made)
       unfolding encodeOutcome write-parts
       told-made = ap (λ (m : List ℕ). digits 1 1 ++ m) (made [] ∙ append-nil (enc permit (permit-parts permit-made))) ∙ tag-one (enc permit (permit-parts permit-made))
 

@@ -12,6 +12,9 @@ ghost use Rattle.deletion.specs.Tests.{firstOf, reserveTests};
 use image::Contents;
 use image::Scalars;
 use image::Table;
+use next::DeleteReserved;
+use next::PublicationOutcome;
+use next::Span;
 use parts::Applied;
 use requests::AuthorityContext;
 use requests::AuthorityPosition;
@@ -188,8 +191,8 @@ pub fn retire_delete(
     let c2 = with_reservations(c, position, left, count);
     let ahead = parts::less(place.start, c.intents.at);
     let body = [0, c.intents.at, ahead, 0, place.end, image.len()];
-    let told = [2, 0, 1];
-    next::emit(0, c2, image, request, &body, &told, next, outcome)
+    let told = PublicationOutcome::Applied;
+    next::emit(0, c2, image, request, &body, told, next, outcome)
 }
 
 pub fn reserve_delete(
@@ -230,9 +233,6 @@ pub fn reserve_delete(
         table.count + 1,
     );
     let ahead = parts::less(place.start, c.intents.at);
-    let generation = x.generation as usize;
-    let term = position.term as usize;
-    let index = position.index as usize;
     let body = [
         0,
         c.intents.at,
@@ -244,37 +244,29 @@ pub fn reserve_delete(
         27,
         plan_size,
         2,
-        generation,
+        x.generation as usize,
         8,
         2,
-        term,
+        position.term as usize,
         8,
         2,
-        index,
+        position.index as usize,
         8,
         0,
         place.end,
         image.len(),
     ];
-    let told = [
-        2,
-        1,
-        1,
-        1,
-        start,
-        size,
-        1,
-        27,
-        plan_size,
-        2,
-        generation,
-        8,
-        2,
-        term,
-        8,
-        2,
-        index,
-        8,
-    ];
-    next::emit(0, c2, image, request, &body, &told, next, outcome)
+    let told = PublicationOutcome::DeleteReserved(DeleteReserved {
+        key_and_identity: Span {
+            at: start,
+            len: size,
+        },
+        plan_id: Span {
+            at: 27,
+            len: plan_size,
+        },
+        owner_generation: x.generation,
+        authority_position: position,
+    });
+    next::emit(0, c2, image, request, &body, told, next, outcome)
 }

@@ -1,7 +1,7 @@
 // The read floor, and the actions that move it by numbers alone: frontier, window, range map.
 ghost use mathlib.Core.Path.{_≡_};
-ghost use Prim.Native.Nat.{_+_, _-_, _≤_, min, max};
-ghost use lib.ListN.{length, take, drop};
+ghost use Prim.Native.Nat.{_+_, _-_, min, max};
+ghost use lib.ListN.{length, drop};
 ghost use Rattle.fields.specs.Codes.{codes};
 ghost use Rattle.image.specs.Shapes.{lease};
 ghost use Rattle.tables.specs.Seek.{rows-at};
@@ -13,6 +13,7 @@ ghost use Rattle.next.specs.Call.{Ready};
 use image::Contents;
 use image::MaybeNumber;
 use image::Scalars;
+use next::PublicationOutcome;
 use parts::Applied;
 use requests::AuthorityContext;
 use requests::PublicationAuthorityFaults;
@@ -114,8 +115,8 @@ pub fn observe_committed_frontier(
     };
     let c2 = next::with_scalars(c, m);
     let body = [0, c.intents.at, image.len()];
-    let told = [2, 0, 1];
-    next::emit(0, c2, image, request, &body, &told, next, outcome)
+    let told = PublicationOutcome::Applied;
+    next::emit(0, c2, image, request, &body, told, next, outcome)
 }
 
 pub fn set_retention_window(
@@ -159,8 +160,8 @@ pub fn set_retention_window(
     };
     let c2 = next::with_scalars(c, m);
     let body = [0, c.intents.at, image.len()];
-    let told = [2, 0, 1];
-    next::emit(0, c2, image, request, &body, &told, next, outcome)
+    let told = PublicationOutcome::Applied;
+    next::emit(0, c2, image, request, &body, told, next, outcome)
 }
 
 pub fn observe_range_map_epoch(
@@ -202,6 +203,6 @@ pub fn observe_range_map_epoch(
     };
     let c2 = next::with_scalars(c, m);
     let body = [0, c.intents.at, image.len()];
-    let told = [2, 0, 1];
-    next::emit(0, c2, image, request, &body, &told, next, outcome)
+    let told = PublicationOutcome::Applied;
+    next::emit(0, c2, image, request, &body, told, next, outcome)
 }

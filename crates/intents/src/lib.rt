@@ -20,6 +20,7 @@ ghost use Rattle.intents.specs.StoredIntent.{matchesIn, statusIn};
 use image::Contents;
 use image::Table;
 use image::TextAt;
+use next::PublicationOutcome;
 use parts::Applied;
 use requests::AuthorityContext;
 use requests::Prepare;
@@ -117,8 +118,8 @@ pub fn prepare(
         p.end,
         image.len(),
     ];
-    let told = [2, 0, 1];
-    next::emit(0, c2, image, request, &body, &told, next, outcome)
+    let told = PublicationOutcome::Applied;
+    next::emit(0, c2, image, request, &body, told, next, outcome)
 }
 
 // What is left of a record after its first fields.
@@ -312,6 +313,6 @@ pub fn publish(
         o.end,
         image.len(),
     ];
-    let told = [2, 0, 1];
-    next::emit(0, c2, image, request, &body, &told, next, outcome)
+    let told = PublicationOutcome::Applied;
+    next::emit(0, c2, image, request, &body, told, next, outcome)
 }

@@ -40,13 +40,16 @@ use Rattle.next.specs.Asked.{fields-here}
 use Rattle.next.specs.Bounds.{request-small}
 use Rattle.next.specs.Head.{Small}
 use Rattle.next.specs.Shows.{Shows}
+use Rattle.next.specs.Outcome.{acquiredParts, outcomeBytes}
+use Rattle.next.specs.declared.LeaseAcquired.{LeaseAcquired as LeaseAcquiredAt}
+use Rattle.next.specs.declared.PublicationOutcome.{PublicationOutcome}
 use Rattle.next.specs.Call.{Ready, ruled}
 use Rattle.floor.specs.Floors.{policyFor, readableFor, oldestAt}
 use Rattle.floor.specs.Oldest.{oldest-here}
 use Rattle.leases.specs.Oldest.{oldest-insert}
 use Rattle.leases.specs.Leased.{withLeases, Recomputed, recomputed, small-leases, table-size-low, table-count-low}
 use Rattle.leases.specs.Placed.{Found, missing, held, inserted-count, inserted-size, placed-tables}
-use Rattle.leases.specs.Asked.{splitAt, askedParts, asked-gathers, asked-length}
+use Rattle.leases.specs.Asked.{splitAt, acquiredAt, asked-gathers, asked-length}
 
 -- ---- the tests
 
@@ -300,8 +303,11 @@ module _ {x : List ℕ} {c : Contents} {q : List ℕ} {a : ContextAt} {f : Fault
 
   -- what is written in its place
   module _ {split first epoch : ℕ} (cut : split ≡ splitAt q) (up-to : first ≡ split - 27) (next : epoch ≡ up (c .scalars .«lease_epoch»)) where
+    abbrev told : LeaseAcquiredAt
+    told = acquiredAt first split (length q) epoch (a .generation) (a .position .term) (a .position .index)
+
     abbrev row : List ℕ
-    row = askedParts first split (length q) epoch (a .generation) (a .position .term) (a .position .index)
+    row = acquiredParts told
 
     row-gathers : (ps : List ℕ) → gatherOf x q (row ++ ps) ≡ enc lease (lease-parts (new r)) ++ gatherOf x q ps
     row-gathers ps =
@@ -312,6 +318,6 @@ module _ {x : List ℕ} {c : Contents} {q : List ℕ} {a : ContextAt} {f : Fault
         → gatherOf x q (0 ∷ c .intents .at ∷ n ∷ (row ++ 0 ∷ place .end ∷ length x ∷ [])) ≡ from-intents (acquired (r .state) key (new r) (f .«omit_lease_root_epoch»))
     acquire-tables n h = placed-tables (r .state) x (r .image-is) (r .formed) c (r .opened) key place (g .found) q row (new r) row-gathers n h
 
-    pub acquire-told : gatherOf x q (2 ∷ 2 ∷ 1 ∷ row) ≡ encodeOutcome (LeaseAcquired (new r))
+    pub acquire-told : outcomeBytes x q (PublicationOutcome.LeaseAcquired told) ≡ encodeOutcome (LeaseAcquired (new r))
     unfolding digits encodeOutcome write-parts
     acquire-told = ap (λ (r : List ℕ). 2 ∷ r) (row-gathers [] ∙ append-nil (enc lease (lease-parts (new r))))

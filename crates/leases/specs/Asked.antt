@@ -17,21 +17,22 @@ use Rattle.machine.specs.Next.{up, new-lease}
 use Rattle.requests.specs.Request.{acquire}
 use Rattle.next.specs.Kept.{run-to, run-rest, after-seam}
 use Rattle.next.specs.Peeks.{skip-to}
+use Rattle.next.specs.Outcome.{acquiredParts}
+use Rattle.next.specs.declared.LeaseAcquired.{LeaseAcquired}
 use Rattle.leases.specs.Runs.{place-behind}
 
 -- where the epoch goes
 abbrev pub splitAt : List ℕ → ℕ
 splitAt q = placeOf q (skip 0 (codesOf (64 ∷ 64 ∷ 8 ∷ [])) (drop 27 q))
 
-abbrev pub askedParts : (first split long epoch generation term index : ℕ) → List ℕ
-askedParts first split long epoch generation term index =
-    1 ∷ 27 ∷ first
-    ∷ 2 ∷ epoch ∷ 8
-    ∷ 1 ∷ split ∷ long
-    ∷ 2 ∷ generation ∷ 8
-    ∷ 2 ∷ term ∷ 8
-    ∷ 2 ∷ index ∷ 8
-    ∷ []
+abbrev pub acquiredAt : (first split long epoch generation term index : ℕ) → LeaseAcquired
+acquiredAt first split long epoch generation term index = record {
+  «to_version» = record { at = 27; len = first };
+  «lease_epoch» = epoch;
+  «from_owner» = record { at = split; len = long };
+  «owner_generation» = generation;
+  «authority_position» = record { term = term; index = index };
+}
 
 module _ (q : List ℕ) (id tenant : Text) (version : ℕ) (owner purpose : Text) (deadline : ℕ) (k : SnapshotClosure)
     (here : drop 27 q ≡ enc acquire (id, (tenant, (version, (owner, (purpose, (deadline, closure-parts k)))))))
@@ -82,9 +83,9 @@ module _ (q : List ℕ) (id tenant : Text) (version : ℕ) (owner purpose : Text
 
       -- THE LEASE'S BYTES
       pub asked-gathers : (y : List ℕ) (first split epoch : ℕ) → first ≡ split - 27 → split ≡ splitAt q → epoch ≡ up (s .lease-epoch)
-          → (ps : List ℕ) → gatherOf y q (askedParts first split (length q) epoch (x .generation) (x .position .term) (x .position .index) ++ ps) ≡ enc lease (lease-parts token) ++ gatherOf y q ps
+          → (ps : List ℕ) → gatherOf y q (acquiredParts (acquiredAt first split (length q) epoch (x .generation) (x .position .term) (x .position .index)) ++ ps) ≡ enc lease (lease-parts token) ++ gatherOf y q ps
       asked-gathers y first split epoch f e u ps =
-          (λ i. gatherOf y q (askedParts ((f ∙ ap (λ (n : ℕ). n - 27) e) i) (e i) (length q) (u i) (x .generation) (x .position .term) (x .position .index) ++ ps))
+          (λ i. gatherOf y q (acquiredParts (acquiredAt ((f ∙ ap (λ (n : ℕ). n - 27) e) i) (e i) (length q) (u i) (x .generation) (x .position .term) (x .position .index)) ++ ps))
           ∙ (λ i. run-a i ++ (digits 8 (up (s .lease-epoch)) ++ (run-b i ++ (digits 8 (x .generation) ++ (digits 8 (x .position .term) ++ (digits 8 (x .position .index) ++ gatherOf y q ps))))))
           ∙ sym (row-is (gatherOf y q ps))
 

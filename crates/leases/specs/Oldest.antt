@@ -1,5 +1,5 @@
 -- The oldest leased version of the leases that stay, row by row.
-use Prim.Native.Nat.{ℕ, suc, _+_, _-_, _≤_, _<_, min}
+use Prim.Native.Nat.{ℕ, _+_, _-_, _≤_, _<_, min}
 use native.Mathlib.Omega.{arith}
 use mathlib.Core.Bool.{Bool, cond}
 use mathlib.Core.List.{List, [], _∷_, _++_}
@@ -12,9 +12,8 @@ use Rattle.state.specs.MapLaws.{Each, by-test}
 use Rattle.state.specs.Records.{SnapshotLeaseToken, State}
 use Rattle.fields.specs.Format.{all}
 use Rattle.fields.specs.Codes.{Code, codes, skip, codeOf, codesOf}
-use Rattle.fields.specs.Walks.{placeOf, rest-place, rest-trans, rest-drop}
+use Rattle.fields.specs.Walks.{placeOf}
 use Rattle.fields.specs.Rows.{text-here}
-use Rattle.tables.specs.Skips.{skip-rest}
 use Rattle.tables.specs.Seek.{rows-at}
 use Rattle.tables.specs.SeekLaws.{Hopped, tails, rows-are}
 use Rattle.image.specs.Shapes.{lease}
@@ -25,7 +24,7 @@ use Rattle.image.specs.Stored.{leases-stored}
 use Rattle.machine.specs.Formed.{LeaseAt}
 use Rattle.machine.specs.Next.{oldest}
 use Rattle.entries.specs.Sized.{image-texts, well-formed}
-use Rattle.next.specs.Edit.{lease-codes}
+use Rattle.next.specs.Due.{rows-none, rows-next}
 use Rattle.floor.specs.Floors.{before-version}
 use Rattle.leases.specs.Rows.{version-row}
 
@@ -54,20 +53,6 @@ kept-row gone v m r rs e =
     ∙ by-test (λ b. cond b (oldestKept gone m rs) (min v (oldestKept gone m rs)) ≡ oldestKept gone (cond b m (min v m)) rs) (gone r) (λ _. refl) (λ _. kept-in gone v m rs)
 
 -- row after row, with what is left of s at p
-module _ (s : List ℕ) (p n i : ℕ) where
-  pub rows-none : n ≤ i → rows-at (codes lease) (n - i) (drop p s) ≡ []
-  unfolding rows-at
-  rows-none h = let z : n - i ≡ 0 = omega arith in rw z
-
-  pub rows-next : (q : ℕ) → q ≡ placeOf s (skip 0 (codesOf (64 ∷ 64 ∷ 8 ∷ 8 ∷ 64 ∷ 64 ∷ 8 ∷ 9 ∷ 128 ∷ 8 ∷ 64 ∷ 10 ∷ 8 ∷ 8 ∷ 8 ∷ [])) (drop p s))
-      → i < n → rows-at (codes lease) (n - i) (drop p s) ≡ drop p s ∷ rows-at (codes lease) (n - (i + 1)) (drop q s)
-  unfolding rows-at
-  rows-next q e h =
-      let z : n - i ≡ suc (n - (i + 1)) = omega arith in
-      let d : drop q s ≡ skip 0 (codes lease) (drop p s) =
-      ap (λ (j : ℕ). drop j s) (e ∙ ap (λ (cs : List Code). placeOf s (skip 0 cs (drop p s))) lease-codes) ∙ rest-place (rest-trans (rest-drop p s) (skip-rest 0 (codes lease) (drop p s))) in
-      ap (λ (k : ℕ). rows-at (codes lease) k (drop p s)) z ∙ ap (λ (l : List ℕ). drop p s ∷ rows-at (codes lease) (n - (i + 1)) l) (sym d)
-
 module _ (gone : List ℕ → Bool) (s : List ℕ) (p n i m : ℕ) where
   pub kept-end : n ≤ i → oldestKept gone m (rows-at (codes lease) (n - i) (drop p s)) ≡ m
   unfolding oldestKept

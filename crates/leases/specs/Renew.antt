@@ -36,11 +36,14 @@ use Rattle.requests.specs.declared.PublicationAuthorityFaults.{PublicationAutho
 use Rattle.next.specs.Head.{Small}
 use Rattle.next.specs.Shows.{Shows}
 use Rattle.next.specs.Kept.{small-here}
+use Rattle.next.specs.Outcome.{renewedParts, outcomeBytes}
+use Rattle.next.specs.declared.LeaseRenewed.{LeaseRenewed as LeaseRenewedAt}
+use Rattle.next.specs.declared.PublicationOutcome.{PublicationOutcome}
 use Rattle.next.specs.Call.{Ready, ruled}
 use Rattle.leases.specs.declared.Runs.{Runs}
 use Rattle.leases.specs.Leased.{withLeases, leasesSet, leases-shown, small-leases}
 use Rattle.leases.specs.Placed.{found-then, Found, missing, held, row-there, epoch-there, deadline-there, replaced-count, replaced-size, placed-tables}
-use Rattle.leases.specs.Runs.{runsOf, renewedParts, renewed-length, renewed-gathers}
+use Rattle.leases.specs.Runs.{runsOf, renewedAt, renewed-length, renewed-gathers}
 
 module _ (s : State) (id : Text) (epoch deadline : ℕ) (x : AuthorityContext) (g : PublicationAuthorityFaults) where
   abbrev ruling : Transition
@@ -177,19 +180,22 @@ module _ {x : List ℕ} {c : Contents} {q : List ℕ} {a : ContextAt} {f : Fault
 
       -- what is written in place of the record
       module _ {runs : Runs} (cut : runs ≡ runsOf x (place .start)) {epoch : ℕ} (next : epoch ≡ up (c .scalars .«lease_epoch»)) where
+        abbrev told : LeaseRenewedAt
+        told = renewedAt runs (place .start) epoch (l .«new_deadline_tick») (a .generation) (a .position .term) (a .position .index)
+
         abbrev row : List ℕ
-        row = renewedParts runs (place .start) epoch (l .«new_deadline_tick») (a .generation) (a .position .term) (a .position .index)
+        row = renewedParts told
 
         row-gathers : (ps : List ℕ) → gatherOf x q (row ++ ps) ≡ enc lease (lease-parts token) ++ gatherOf x q ps
         unfolding token
         row-gathers ps =
-            (λ i. gatherOf x q (renewedParts (cut i) (place .start) ((next ∙ ap (λ (d : Contents). up (d .scalars .«lease_epoch»)) (ready .opened)) i) (l .«new_deadline_tick») (a .generation) (a .position .term) (a .position .index) ++ ps))
+            (λ i. gatherOf x q (renewedParts (renewedAt (cut i) (place .start) ((next ∙ ap (λ (d : Contents). up (d .scalars .«lease_epoch»)) (ready .opened)) i) (l .«new_deadline_tick») (a .generation) (a .position .term) (a .position .index)) ++ ps))
             ∙ renewed-gathers (stands .0) x rest (place .start) fits row-is q s (l .«new_deadline_tick») (contextOf a) ps
 
         pub renew-tables : (n : ℕ) → n ≡ place .start - c .intents .at
             → gatherOf x q (0 ∷ c .intents .at ∷ n ∷ (row ++ 0 ∷ place .end ∷ length x ∷ [])) ≡ from-intents (renewed s id token (f .«omit_lease_root_epoch»))
         renew-tables n h = placed-tables s x (ready .image-is) (ready .formed) c (ready .opened) id place found q row token row-gathers n h
 
-        pub renew-told : gatherOf x q (2 ∷ 3 ∷ 1 ∷ row) ≡ encodeOutcome (LeaseRenewed token)
+        pub renew-told : outcomeBytes x q (PublicationOutcome.LeaseRenewed told) ≡ encodeOutcome (LeaseRenewed token)
         unfolding digits encodeOutcome write-parts
         renew-told = ap (λ (r : List ℕ). 3 ∷ r) (row-gathers [] ∙ append-nil (enc lease (lease-parts token)))

@@ -9,13 +9,11 @@ use Rattle.fields.specs.Format.{Field, _▹_, El, enc}
 use Rattle.fields.specs.Codes.{Code, a-text, a-number, codes, skip}
 use Rattle.image.specs.Shapes.{short, u64, name, position, closure, lease, lease-parts}
 use Rattle.floor.specs.Floors.{before-version}
+use Rattle.next.specs.Due.{before-deadline}
 use Rattle.next.specs.Peeks.{skip-to, number-here}
 
 abbrev pub before-epoch : List Code
 before-epoch = a-text short ∷ a-text short ∷ a-number 8 ∷ []
-
-abbrev pub before-deadline : List Code
-before-deadline = a-text short ∷ a-text short ∷ a-number 8 ∷ a-number 8 ∷ a-text short ∷ a-text short ∷ []
 
 -- a number behind a field
 number-in : (f : Field) (v : El f) (n : ℕ) (r : List ℕ) → n < 256 ^ 8 → value (take 8 (skip 0 (codes f) (enc f v ++ (digits 8 n ++ r)))) ≡ n

@@ -15,6 +15,8 @@ use Rattle.image.specs.Shapes.{u64, name, position, closure, lease, lease-parts
 use Rattle.machine.specs.Next.{up, renewed-lease}
 use Rattle.next.specs.Kept.{run-to, after-seam}
 use Rattle.next.specs.Peeks.{skip-to}
+use Rattle.next.specs.Outcome.{renewedParts}
+use Rattle.next.specs.declared.LeaseRenewed.{LeaseRenewed}
 use Rattle.leases.specs.declared.Runs.{Runs}
 
 abbrev epochAt : List ℕ → ℕ → ℕ
@@ -46,18 +48,17 @@ runs-are s at epoch deadline generation a b c e d g ea eb ec = λ i. record {
   «to_generation» = (ec ∙ (λ j. g j - (d j + 8))) i;
 }
 
--- the parts of the renewed record
-abbrev pub renewedParts : Runs → (at epoch deadline generation term index : ℕ) → List ℕ
-renewedParts r at epoch deadline generation term index =
-    0 ∷ at ∷ r .«to_epoch»
-    ∷ 2 ∷ epoch ∷ 8
-    ∷ 0 ∷ r .«from_epoch» ∷ r .«to_deadline»
-    ∷ 2 ∷ deadline ∷ 8
-    ∷ 0 ∷ r .«from_deadline» ∷ r .«to_generation»
-    ∷ 2 ∷ generation ∷ 8
-    ∷ 2 ∷ term ∷ 8
-    ∷ 2 ∷ index ∷ 8
-    ∷ []
+-- the renewed record
+abbrev pub renewedAt : Runs → (at epoch deadline generation term index : ℕ) → LeaseRenewed
+renewedAt r at epoch deadline generation term index = record {
+  «to_version» = record { at = at; len = r .«to_epoch» };
+  «lease_epoch» = epoch;
+  «owner_and_purpose» = record { at = r .«from_epoch»; len = r .«to_deadline» };
+  «deadline_tick» = deadline;
+  closure = record { at = r .«from_deadline»; len = r .«to_generation» };
+  «owner_generation» = generation;
+  «authority_position» = record { term = term; index = index };
+}
 
 -- where the rest of s stands that comes behind a
 pub place-behind : (s a r : List ℕ) (p : ℕ) → p ≤ length s → drop p s ≡ a ++ r → placeOf s r ≡ p + length a
@@ -190,7 +191,7 @@ module _ (t : SnapshotLeaseToken) where
 
     -- THE PARTS OF A RENEWED LEASE
     pub renewed-gathers : (q : List ℕ) (s : State) (tick : ℕ) (x : AuthorityContext) (ps : List ℕ)
-        → gatherOf y q (renewedParts (runsOf y p) p (up (s .lease-epoch)) tick (x .generation) (x .position .term) (x .position .index) ++ ps)
+        → gatherOf y q (renewedParts (renewedAt (runsOf y p) p (up (s .lease-epoch)) tick (x .generation) (x .position .term) (x .position .index)) ++ ps)
         ≡ enc lease (lease-parts (renewed-lease s t tick x)) ++ gatherOf y q ps
     renewed-gathers q s tick x ps =
         (λ i. run-a i ++ (digits 8 (up (s .lease-epoch)) ++ (run-b i ++ (digits 8 tick ++ (run-d i ++ (digits 8 (x .generation) ++ (digits 8 (x .position .term) ++ (digits 8 (x .position .index) ++ gatherOf y q ps))))))))

@@ -1,12 +1,11 @@
 // The actions on one lease by its id: acquire, renew, release.
 ghost use mathlib.Core.Bool.{cond, not, _&&_};
 ghost use mathlib.Core.Path.{_≡_};
-ghost use Prim.Native.Nat.{_+_, _-_, _≤_, min};
+ghost use Prim.Native.Nat.{_+_, _-_, min};
 ghost use lib.Dec.{ltb};
-ghost use lib.ListN.{length, take, drop};
+ghost use lib.ListN.{length, drop};
 ghost use Rattle.parts.specs.Answer.{Gave};
-ghost use Rattle.parts.specs.Digits.{value};
-ghost use Rattle.fields.specs.Codes.{codes, codesOf, skip};
+ghost use Rattle.fields.specs.Codes.{codes};
 ghost use Rattle.image.specs.Shapes.{lease};
 ghost use Rattle.tables.specs.Seek.{rows-at};
 ghost use Rattle.entries.specs.Bytes.{applyBytes};
@@ -20,6 +19,10 @@ use image::Contents;
 use image::MaybeNumber;
 use image::Scalars;
 use image::Table;
+use next::LeaseAcquired;
+use next::LeaseRenewed;
+use next::PublicationOutcome;
+use next::Span;
 use parts::Applied;
 use requests::AcquireLease;
 use requests::AuthorityContext;
@@ -27,13 +30,6 @@ use requests::PublicationAuthorityFaults;
 use requests::ReleaseLease;
 use requests::RenewLease;
 use tables::Place;
-
-// The number that stands in the record at a place behind some of its fields.
-pub fn number_after(before: &[u8], s: &[u8], at: usize) -> u64
-    ensures { λ r. ⌜ r ≡ value (take 8 (skip 0 (codesOf (now (before .entry))) (drop at (now (s .entry))))) ⌝ }
-{
-    parts::u64_at(s, tables::skip_record(before, s, at))
-}
 
 // What a renewal keeps of a record: so many bytes up to its epoch; from there up to the deadline; and from there up to
 // the generation.
@@ -84,7 +80,7 @@ fn oldest_without(s: &[u8], at: usize, n: usize, id: &[u8], floor: u64) -> u64
     while i < n {
         m = older(
             text::same(id, fields::text_at(s, p)),
-            number_after(&before, s, p),
+            next::number_after(&before, s, p),
             m,
         );
         p = tables::skip_record(&image::LEASE, s, p);
@@ -261,30 +257,18 @@ fn put_lease(
         p.end,
         image.len(),
     ];
-    let told = [
-        2,
-        2,
-        1,
-        1,
-        27,
-        first,
-        2,
-        epoch as usize,
-        8,
-        1,
-        e,
-        request.len(),
-        2,
-        x.generation as usize,
-        8,
-        2,
-        x.position.term as usize,
-        8,
-        2,
-        x.position.index as usize,
-        8,
-    ];
-    next::emit(0, c2, image, request, &body, &told, next, outcome)
+    let position = x.position;
+    let told = PublicationOutcome::LeaseAcquired(LeaseAcquired {
+        to_version: Span { at: 27, len: first },
+        lease_epoch: epoch,
+        from_owner: Span {
+            at: e,
+            len: request.len(),
+        },
+        owner_generation: x.generation,
+        authority_position: position,
+    });
+    next::emit(0, c2, image, request, &body, told, next, outcome)
 }
 
 pub fn acquire_lease(
@@ -353,7 +337,7 @@ pub fn renew_lease(
         return parts::refuse(22);
     }
     let before_epoch = [64u8, 64, 8];
-    let held = number_after(&before_epoch, image, p.start);
+    let held = next::number_after(&before_epoch, image, p.start);
     if held != a.expected_lease_epoch {
         return parts::refuse(23);
     }
@@ -361,7 +345,7 @@ pub fn renew_lease(
         return parts::refuse(24);
     }
     let before_deadline = [64u8, 64, 8, 8, 64, 64];
-    let deadline = number_after(&before_deadline, image, p.start);
+    let deadline = next::number_after(&before_deadline, image, p.start);
     if a.new_deadline_tick <= deadline {
         return parts::refuse(24);
     }
@@ -411,36 +395,26 @@ pub fn renew_lease(
         p.end,
         image.len(),
     ];
-    let told = [
-        2,
-        3,
-        1,
-        0,
-        p.start,
-        r.to_epoch,
-        2,
-        epoch as usize,
-        8,
-        0,
-        r.from_epoch,
-        r.to_deadline,
-        2,
-        a.new_deadline_tick as usize,
-        8,
-        0,
-        r.from_deadline,
-        r.to_generation,
-        2,
-        x.generation as usize,
-        8,
-        2,
-        x.position.term as usize,
-        8,
-        2,
-        x.position.index as usize,
-        8,
-    ];
-    next::emit(0, c2, image, request, &body, &told, next, outcome)
+    let position = x.position;
+    let told = PublicationOutcome::LeaseRenewed(LeaseRenewed {
+        to_version: Span {
+            at: p.start,
+            len: r.to_epoch,
+        },
+        lease_epoch: epoch,
+        owner_and_purpose: Span {
+            at: r.from_epoch,
+            len: r.to_deadline,
+        },
+        deadline_tick: a.new_deadline_tick,
+        closure: Span {
+            at: r.from_deadline,
+            len: r.to_generation,
+        },
+        owner_generation: x.generation,
+        authority_position: position,
+    });
+    next::emit(0, c2, image, request, &body, told, next, outcome)
 }
 
 pub fn release_lease(
@@ -465,7 +439,7 @@ pub fn release_lease(
         return parts::refuse(22);
     }
     let before = [64u8, 64, 8];
-    let held = number_after(&before, image, p.start);
+    let held = next::number_after(&before, image, p.start);
     if held != a.expected_lease_epoch {
         return parts::refuse(23);
     }
@@ -496,6 +470,6 @@ pub fn release_lease(
         p.end,
         image.len(),
     ];
-    let told = [2, 0, 1];
-    next::emit(0, c2, image, request, &body, &told, next, outcome)
+    let told = PublicationOutcome::Applied;
+    next::emit(0, c2, image, request, &body, told, next, outcome)
 }

@@ -26,7 +26,9 @@ use Rattle.requests.specs.declared.Request.{Request as RequestAt}
 use Rattle.entries.specs.Bytes.{settled, applyBytes}
 use Rattle.next.specs.Head.{headParts, overLimit}
 use Rattle.next.specs.Emit.{Emitted}
+use Rattle.next.specs.Outcome.{outcomeBytes}
 use Rattle.next.specs.Shows.{Shows, image-shown, limits-shown}
+use Rattle.next.specs.declared.PublicationOutcome.{PublicationOutcome}
 
 -- what `apply` knows when it calls a transition: the image's state, the request's value, and that format and context passed
 pub record Ready (x : List ℕ) (c : Contents) (q : List ℕ) (r : RequestAt) : Type 0 where
@@ -55,11 +57,11 @@ module _ {x : List ℕ} {c : Contents} {q : List ℕ} {r : RequestAt} (ready : R
       gave-no n (answered (length d) (length e) ∙ ap (λ (t : Transition). settled (length d) (length e) (answer t))
       (apply-rejects (ready .state) (actionOf q (r .action)) (contextOf (r .context)) (faultsOf (r .faults)) (ready .format) (ready .valid) n h)) k
 
-  pub done : {d e d′ e′ : List ℕ} {p : Applied} (t : State) (o : Outcome) (source : ℕ) (c′ : Contents) (body told : List ℕ) → ruled ≡ accepted t o
+  pub done : {d e d′ e′ : List ℕ} {p : Applied} (t : State) (o : Outcome) (source : ℕ) (c′ : Contents) (body : List ℕ) (told : PublicationOutcome) → ruled ≡ accepted t o
       → Shows x q source c′ (set-revision (contextOf (r .context) .position) t)
       → gatherOf x q body ≡ from-intents t
-      → gatherOf x q told ≡ encodeOutcome o
-      → Emitted x q body told d e d′ e′ p (overLimit c′) (headParts source c′)
+      → outcomeBytes x q told ≡ encodeOutcome o
+      → Emitted x q body d e d′ e′ p (overLimit c′) (headParts source c′) (outcomeBytes x q told)
       → Gave (applyBytes x q (length d) (length e)) d e p d′ e′
   done {d} {e} {d′} {e′} {p} t o source c′ body told h sh b w g =
       subst (λ (a : Answer). Gave a d e p d′ e′)

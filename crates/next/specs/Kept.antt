@@ -11,16 +11,13 @@ use Rattle.parts.specs.Digits.{digits}
 use Rattle.parts.specs.Gather.{run, pieceOf, gatherOf}
 use Rattle.state.specs.Maps.{Text}
 use Rattle.state.specs.Records.{State}
-use Rattle.fields.specs.Format.{enc, enc-option, enc-text, TextOk, Maybe}
+use Rattle.fields.specs.Format.{enc-option, enc-text, TextOk, Maybe}
 use Rattle.image.specs.Shapes.{short}
 use Rattle.image.specs.Layout.{encodeImage, Formed}
 use Rattle.image.specs.Opened.{scalarsOf, rootOf, contentsOf}
 use Rattle.image.specs.ImageParts.{scalars-bytes, scalars-is, intents-bytes, roots-bytes, pins-bytes, reservations-bytes, leases-bytes, jobs-bytes, scalars-at, intents-at, end-at, from-intents, at-scalars, at-intents, length-image}
 use Rattle.image.specs.declared.Scalars.{Scalars}
 use Rattle.image.specs.declared.Contents.{Contents}
-use Rattle.machine.specs.Actions.{Applied}
-use Rattle.requests.specs.Cases.{write-parts}
-use Rattle.requests.specs.Outcome.{encodeOutcome}
 use Rattle.next.specs.Head.{Small, withScalars, rootFlag, rootStart, rootWidth}
 use Rattle.next.specs.Shows.{rootBytes}
 
@@ -174,9 +171,3 @@ whole-tables s x q i c e =
     ap (λ (c : Contents). gatherOf x q (0 ∷ c .intents .at ∷ length x ∷ [])) e
     ∙ append-nil (run x (intents-at s) (length x))
     ∙ run-rest x (from-intents s) (intents-at s) (length x) (tables-here s x i) (omega arith)
-
--- ---- an outcome that says no more than that it was applied
-
-pub applied-told : (x q : List ℕ) → gatherOf x q (2 ∷ 0 ∷ 1 ∷ []) ≡ encodeOutcome Applied
-unfolding digits encodeOutcome write-parts enc
-applied-told x q = refl

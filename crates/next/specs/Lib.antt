@@ -7,3 +7,6 @@ pub mod Bounds
 pub mod Peeks
 pub mod Asked
 pub mod Edit
+pub mod Due
+pub mod Added
+pub mod Outcome

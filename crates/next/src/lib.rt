@@ -1,18 +1,90 @@
 // The next image and the outcome, measured and then written: the one way in which a transition answers.
 ghost use mathlib.Core.Path.{_≡_};
-ghost use mathlib.Core.List.{_++_};
+ghost use mathlib.Core.List.{_∷_, _++_};
 ghost use Prim.Native.Nat.{_+_, _-_, _≤_};
-ghost use lib.ListN.{length};
+ghost use lib.ListN.{length, take, drop};
 ghost use mathlib.Core.Bool.{cond};
+ghost use Rattle.fields.specs.Codes.{codesOf, skip};
 ghost use Rattle.machine.specs.Next.{up};
 ghost use Rattle.parts.specs.Answer.{settle, Gave};
-ghost use Rattle.parts.specs.Gather.{gatherOf};
-ghost use Rattle.next.specs.Head.{windowFlag, windowValue, windowWidth, rootFlag, rootStart, rootWidth, scalarsSize, headParts, overLimit, Small, withScalars};
+ghost use Rattle.parts.specs.Digits.{value};
+ghost use Rattle.parts.specs.Gather.{gatherOf, Filled};
+ghost use Rattle.next.specs.Head.{windowFlag, windowValue, windowWidth, rootFlag, rootStart, rootWidth, headParts, overLimit, Small, withScalars};
+ghost use Rattle.next.specs.Due.{due, endedIds};
+ghost use Rattle.next.specs.Added.{Added};
+ghost use Rattle.next.specs.Outcome.{permitParts, acquiredParts, renewedParts, preparedParts, ExpiredAs, outcomeBytes, Fits};
 use image::Contents;
 use image::MaybeNumber;
 use image::MaybeText;
 use image::Scalars;
 use parts::Applied;
+use requests::AuthorityPosition;
+
+// Bytes as they stand in the image or in the request, the length bytes of their texts among them.
+pub struct Span {
+    pub at: usize,
+    pub len: usize,
+}
+
+// A permit: key and identity, and plan_id, stand in the request.
+pub struct DeleteReserved {
+    pub key_and_identity: Span,
+    pub plan_id: Span,
+    pub owner_generation: u64,
+    pub authority_position: AuthorityPosition,
+}
+
+// A token: lease_id to snapshot_version, and owner to closure, stand in the request.
+pub struct LeaseAcquired {
+    pub to_version: Span,
+    pub lease_epoch: u64,
+    pub from_owner: Span,
+    pub owner_generation: u64,
+    pub authority_position: AuthorityPosition,
+}
+
+// A token: lease_id to snapshot_version, owner and purpose, and closure stand in the image.
+pub struct LeaseRenewed {
+    pub to_version: Span,
+    pub lease_epoch: u64,
+    pub owner_and_purpose: Span,
+    pub deadline_tick: u64,
+    pub closure: Span,
+    pub owner_generation: u64,
+    pub authority_position: AuthorityPosition,
+}
+
+// The ids of the leases that end at a tick: where the leases stand in the image, how many they are, and how many end.
+pub struct LeasesExpired {
+    pub at: usize,
+    pub count: usize,
+    pub tick: u64,
+    pub ended: usize,
+}
+
+// A token: job_id, and frozen_floor to output_namespace, stand in the request.
+pub struct CollectionPrepared {
+    pub job_id: Span,
+    pub owner_generation: u64,
+    pub authority_position: AuthorityPosition,
+    pub from_floor: Span,
+}
+
+// All of the receipt stands in the request.
+pub struct CollectionPublished {
+    pub receipt: Span,
+}
+
+// What an accepted action tells; `outcomeBytes` gives each case its number and its fields.
+pub enum PublicationOutcome {
+    Applied,
+    DeleteReserved(DeleteReserved),
+    LeaseAcquired(LeaseAcquired),
+    LeaseRenewed(LeaseRenewed),
+    LeasesExpired(LeasesExpired),
+    CollectionPrepared(CollectionPrepared),
+    CollectionPublished(CollectionPublished),
+}
 
 fn window_flag(w: MaybeNumber) -> usize
     ensures { λ r. ⌜ r ≡ windowFlag w ⌝ }
@@ -227,24 +299,218 @@ fn head(source: usize, c: Contents) -> [usize; 111]
     ]
 }
 
-// The next image is the contents c and the tables that body gathers; told gathers the outcome.
+// The parts of each outcome: its number, and then its fields.
+fn permit_parts(o: DeleteReserved) -> [usize; 18]
+    ensures { λ r. ⌜ r ≡ 2 ∷ 1 ∷ 1 ∷ permitParts o ⌝ }
+{
+    let p = o.authority_position;
+    [
+        2,
+        1,
+        1,
+        1,
+        o.key_and_identity.at,
+        o.key_and_identity.len,
+        1,
+        o.plan_id.at,
+        o.plan_id.len,
+        2,
+        o.owner_generation as usize,
+        8,
+        2,
+        p.term as usize,
+        8,
+        2,
+        p.index as usize,
+        8,
+    ]
+}
+
+fn acquired_parts(o: LeaseAcquired) -> [usize; 21]
+    ensures { λ r. ⌜ r ≡ 2 ∷ 2 ∷ 1 ∷ acquiredParts o ⌝ }
+{
+    let p = o.authority_position;
+    [
+        2,
+        2,
+        1,
+        1,
+        o.to_version.at,
+        o.to_version.len,
+        2,
+        o.lease_epoch as usize,
+        8,
+        1,
+        o.from_owner.at,
+        o.from_owner.len,
+        2,
+        o.owner_generation as usize,
+        8,
+        2,
+        p.term as usize,
+        8,
+        2,
+        p.index as usize,
+        8,
+    ]
+}
+
+fn renewed_parts(o: LeaseRenewed) -> [usize; 27]
+    ensures { λ r. ⌜ r ≡ 2 ∷ 3 ∷ 1 ∷ renewedParts o ⌝ }
+{
+    let p = o.authority_position;
+    [
+        2,
+        3,
+        1,
+        0,
+        o.to_version.at,
+        o.to_version.len,
+        2,
+        o.lease_epoch as usize,
+        8,
+        0,
+        o.owner_and_purpose.at,
+        o.owner_and_purpose.len,
+        2,
+        o.deadline_tick as usize,
+        8,
+        0,
+        o.closure.at,
+        o.closure.len,
+        2,
+        o.owner_generation as usize,
+        8,
+        2,
+        p.term as usize,
+        8,
+        2,
+        p.index as usize,
+        8,
+    ]
+}
+
+fn prepared_parts(o: CollectionPrepared) -> [usize; 18]
+    ensures { λ r. ⌜ r ≡ 2 ∷ 5 ∷ 1 ∷ preparedParts o ⌝ }
+{
+    let p = o.authority_position;
+    [
+        2,
+        5,
+        1,
+        1,
+        o.job_id.at,
+        o.job_id.len,
+        2,
+        o.owner_generation as usize,
+        8,
+        2,
+        p.term as usize,
+        8,
+        2,
+        p.index as usize,
+        8,
+        1,
+        o.from_floor.at,
+        o.from_floor.len,
+    ]
+}
+
+// The number that stands in the record at a place behind some of its fields.
+pub fn number_after(before: &[u8], s: &[u8], at: usize) -> u64
+    ensures { λ r. ⌜ r ≡ value (take 8 (skip 0 (codesOf (now (before .entry))) (drop at (now (s .entry))))) ⌝ }
+{
+    parts::u64_at(s, tables::skip_record(before, s, at))
+}
+
+// Whether the deadline of the lease at a place is reached.
+pub fn is_due(s: &[u8], at: usize, tick: u64) -> bool
+    ensures { λ r. ⌜ r ≡ due tick (drop at (now (s .entry))) ⌝ }
+{
+    let before = [64u8, 64, 8, 8, 64, 64];
+    number_after(&before, s, at) <= tick
+}
+
+// The length of a part that is there or not.
+fn len_if(there: bool, n: usize) -> usize
+    ensures { λ r. ⌜ r ≡ cond there n 0 ⌝ }
+{
+    if there { n } else { 0 }
+}
+
+// A part for each row, with the bytes of its id where it ends.
+fn ends(parts: &mut [usize], s: &[u8], at: usize, n: usize, tick: u64)
+    requires { ⌜ (n ≤ 64) × (length (now parts) ≡ 198) × Filled 2 (now parts) ⌝ }
+    ensures { λ r. ⌜ Added (endedIds tick) 2 (now (s .entry)) at n (now (parts .entry)) (now (parts .exit)) ⌝ }
+{
+    let mut i = 0;
+    let mut p = fields::within(s, at);
+    while i < n {
+        let id = fields::text_at(s, p);
+        parts::set_part(parts, i + 2, 0, p, len_if(is_due(s, p, tick), id.len() + 1));
+        p = tables::skip_record(&image::LEASE, s, p);
+        i += 1;
+    }
+}
+
+fn expired_parts(s: &[u8], o: LeasesExpired) -> [usize; 198]
+    requires { ⌜ o .count ≤ 64 ⌝ }
+    ensures { λ r. ⌜ ExpiredAs (now (s .entry)) o r ⌝ }
+{
+    let mut parts = [0usize; 198];
+    parts::set_part(&mut parts, 0, 2, 4, 1);
+    parts::set_part(&mut parts, 1, 2, o.ended, 1);
+    ends(&mut parts, s, o.at, o.count, o.tick);
+    parts
+}
+
+// The next image is the contents c and the tables that body gathers; the outcome is o.
 pub fn emit(
     source: usize,
     c: Contents,
     image: &[u8],
     request: &[u8],
     body: &[usize],
-    told: &[usize],
+    o: PublicationOutcome,
     next: &mut [u8],
     outcome: &mut [u8],
 ) -> Applied
-    requires { ⌜ Small c ⌝ }
-    ensures { λ r. ⌜ Gave (settle (overLimit c) (gatherOf (now (image .entry)) (now (request .entry)) (headParts source c) ++ gatherOf (now (image .entry)) (now (request .entry)) (now (body .entry))) (gatherOf (now (image .entry)) (now (request .entry)) (now (told .entry))) (length (now (next .entry))) (length (now (outcome .entry))))
+    requires { ⌜ Small c × Fits o ⌝ }
+    ensures { λ r. ⌜ Gave (settle (overLimit c) (gatherOf (now (image .entry)) (now (request .entry)) (headParts source c) ++ gatherOf (now (image .entry)) (now (request .entry)) (now (body .entry))) (outcomeBytes (now (image .entry)) (now (request .entry)) o) (length (now (next .entry))) (length (now (outcome .entry))))
         (now (next .entry)) (now (outcome .entry)) r (now (next .exit)) (now (outcome .exit)) ⌝ }
 {
     let h = head(source, c);
     let over = over_limit(c);
-    parts::emit(over, image, request, &h, body, told, next, outcome)
+    match o {
+        PublicationOutcome::Applied => {
+            let told = [2, 0, 1];
+            parts::emit(over, image, request, &h, body, &told, next, outcome)
+        }
+        PublicationOutcome::DeleteReserved(permit) => {
+            let told = permit_parts(permit);
+            parts::emit(over, image, request, &h, body, &told, next, outcome)
+        }
+        PublicationOutcome::LeaseAcquired(token) => {
+            let told = acquired_parts(token);
+            parts::emit(over, image, request, &h, body, &told, next, outcome)
+        }
+        PublicationOutcome::LeaseRenewed(token) => {
+            let told = renewed_parts(token);
+            parts::emit(over, image, request, &h, body, &told, next, outcome)
+        }
+        PublicationOutcome::LeasesExpired(leases) => {
+            let told = expired_parts(image, leases);
+            parts::emit(over, image, request, &h, body, &told, next, outcome)
+        }
+        PublicationOutcome::CollectionPrepared(token) => {
+            let told = prepared_parts(token);
+            parts::emit(over, image, request, &h, body, &told, next, outcome)
+        }
+        PublicationOutcome::CollectionPublished(o) => {
+            let told = [2, 6, 1, 1, o.receipt.at, o.receipt.len];
+            parts::emit(over, image, request, &h, body, &told, next, outcome)
+        }
+    }
 }
 
 // The same tables with other scalars.

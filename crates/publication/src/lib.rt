@@ -10,6 +10,7 @@ ghost use Rattle.requests.specs.declared.PublicationAction.{PublicationAction};
 ghost use Rattle.next.specs.Call.{Ready};
 ghost use Rattle.publication.specs.References.{optionAt};
 use image::Contents;
+use next::PublicationOutcome;
 use parts::Applied;
 use requests::AuthorityContext;
 use requests::Pin;
@@ -92,8 +93,8 @@ pub fn pin(
         p.end,
         image.len(),
     ];
-    let told = [2, 0, 1];
-    next::emit(0, c2, image, request, &body, &told, next, outcome)
+    let told = PublicationOutcome::Applied;
+    next::emit(0, c2, image, request, &body, told, next, outcome)
 }
 
 pub fn unpin(
@@ -140,6 +141,6 @@ pub fn unpin(
         p.end,
         image.len(),
     ];
-    let told = [2, 0, 1];
-    next::emit(0, c2, image, request, &body, &told, next, outcome)
+    let told = PublicationOutcome::Applied;
+    next::emit(0, c2, image, request, &body, told, next, outcome)
 }

@@ -1,7 +1,8 @@
 use Rattle.machine.specs.Actions.{LeasesExpired}
 use Rattle.machine.specs.Next.{expired, clock-advanced}
 use Rattle.next.specs.Call.{refused, done}
-use Rattle.clock.specs.Advance.{other-tick, back, onward, count-low, image-low, advance-small, advance-told, advance-tables, advance-shows}
+use Rattle.clock.specs.Advance.{other-tick, back, onward, expiredAt, count-low, image-low, advance-small, advance-told, advance-tables, advance-shows}
+use Rattle.next.specs.declared.PublicationOutcome.{PublicationOutcome}
 use borrow.Author.Needs.{needs}
 use Rattle.clock.proofs.advance_lease_clock.Statement.{statement}
 use Rattle.clock.proofs.advance_lease_clock.Tie as tie
@@ -42,17 +43,11 @@ with-leases-requires c κs = search needs
 body-parts-requires : tie.Need-body-parts-requires
 body-parts-requires c κs = count-low (c .before .before .before .before .before .before .before .before .before .before .before .before .before .before .before .before .before .before .pre)
 
-told-parts-requires : tie.Need-told-parts-requires
-told-parts-requires c κs = count-low (c .before .before .before .before .before .before .before .before .before .before .before .before .before .before .before .before .before .before .before .pre)
-
 slice-aggregate-emit : tie.Need-slice-aggregate-emit
 slice-aggregate-emit c = search needs
 
-slice-aggregate-emit-2 : tie.Need-slice-aggregate-emit-2
-slice-aggregate-emit-2 c = search needs
-
 emit-requires : tie.Need-emit-requires
-emit-requires c κs = advance-small (c .before .before .before .before .before .before .before .before .before .before .before .before .before .before .before .before .before .before .before .before .before .before .before .before .pre) ((c .before .before .before .before .before .before .before .before .before .before .before .before .policy-for) .result) ((c .before .before .before .before .before .before .before .before .before .before .before .count-rows) .ensures) ((c .before .before .before .before .before .before .with-leases) .ensures)
+emit-requires c κs = (advance-small (c .before .before .before .before .before .before .before .before .before .before .before .before .before .before .before .before .before .before .before .before .before .before .pre) ((c .before .before .before .before .before .before .before .before .before .before .policy-for) .result) ((c .before .before .before .before .before .before .before .before .before .count-rows) .ensures) ((c .before .before .before .before .with-leases) .ensures), count-low (c .before .before .before .before .before .before .before .before .before .before .before .before .before .before .before .before .before .before .before .before .before .before .pre))
 
 same-length : tie.Need-same-length
 same-length c = search needs
@@ -61,12 +56,12 @@ same-length-2 : tie.Need-same-length-2
 same-length-2 c = search needs
 
 returns-3 : tie.Need-returns-3
-returns-3 c = done (c .before .before .before .before .before .before .before .before .before .before .before .before .before .before .before .before .before .before .before .before .before .before .before .before .before .before .before .before .before .pre) (clock-advanced ((c .before .before .before .before .before .before .before .before .before .before .before .before .before .before .before .before .before .before .before .before .before .before .before .before .before .before .before .before .before .pre) .state) ((c .before .before .before .before .before .before .before .before .before .before .before .before .before .before .before .before .before .before .before .before .before .before .before .before .before .before .before .before .before .args) .a .«next_tick») ((c .before .before .before .before .before .before .before .before .before .before .before .before .before .before .before .before .before .before .before .before .before .before .before .before .before .before .before .before .before .args) .f .«omit_lease_root_epoch»)) (LeasesExpired (expired ((c .before .before .before .before .before .before .before .before .before .before .before .before .before .before .before .before .before .before .before .before .before .before .before .before .before .before .before .before .before .pre) .state) ((c .before .before .before .before .before .before .before .before .before .before .before .before .before .before .before .before .before .before .before .before .before .before .before .before .before .before .before .before .before .args) .a .«next_tick»))) 0 ((c .before .before .before .before .before .before .before .before .before .before .before .with-leases) .result)
-    ((c .before .before .before .before .before .before .before .before .before .before .body-parts) .result) ((c .before .before .before .before .before .before .before .before .before .told-parts) .result)
-    (onward (c .before .before .before .before .before .before .before .before .before .before .before .before .before .before .before .before .before .before .before .before .before .before .before .before .before .before .before .before .before .pre) ((c .before .before .before .before .before .before .before .before .before .before .before .before .before .before .before .before .before .before .before .before .if1) .left) ((c .before .before .before .before .before .before .before .before .before .before .before .before .before .before .before .before .before .before .if2) .left))
-    (advance-shows (c .before .before .before .before .before .before .before .before .before .before .before .before .before .before .before .before .before .before .before .before .before .before .before .before .before .before .before .before .before .pre) _ _ _ _ _ _ ((c .before .before .before .before .before .before .before .before .before .before .before .before .before .before .before .before .before .policy-for) .ensures) ((c .before .before .before .before .before .before .before .before .before .before .before .before .before .before .before .before .count-rows) .ensures) ((c .before .before .before .before .before .before .before .before .before .before .before .before .before .before .before .up-if) .ensures) ((c .before .before .before .before .before .before .before .before .before .before .before .before .before .before .root-after) .ensures) ((c .before .before .before .before .before .before .before .before .before .before .before .before .before .readable-for) .ensures) ((c .before .before .before .before .before .before .before .before .before .before .before .before .less) .ensures) _ ((c .before .before .before .before .before .before .before .before .before .before .before .with-leases) .ensures))
-    (advance-tables (c .before .before .before .before .before .before .before .before .before .before .before .before .before .before .before .before .before .before .before .before .before .before .before .before .before .before .before .before .before .pre) ((c .before .before .before .before .before .before .before .before .before .before .body-parts) .ensures))
-    (advance-told (c .before .before .before .before .before .before .before .before .before .before .before .before .before .before .before .before .before .before .before .before .before .before .before .before .before .before .before .before .before .pre) ((c .before .before .before .before .before .before .before .before .before .before .before .before .before .before .before .before .before .policy-for) .result) ((c .before .before .before .before .before .before .before .before .before .before .before .before .before .before .before .before .count-rows) .ensures) ((c .before .before .before .before .before .before .before .before .before .told-parts) .ensures))
+returns-3 c = done (c .before .before .before .before .before .before .before .before .before .before .before .before .before .before .before .before .before .before .before .before .before .before .before .before .before .before .before .pre) (clock-advanced ((c .before .before .before .before .before .before .before .before .before .before .before .before .before .before .before .before .before .before .before .before .before .before .before .before .before .before .before .pre) .state) ((c .before .before .before .before .before .before .before .before .before .before .before .before .before .before .before .before .before .before .before .before .before .before .before .before .before .before .before .args) .a .«next_tick») ((c .before .before .before .before .before .before .before .before .before .before .before .before .before .before .before .before .before .before .before .before .before .before .before .before .before .before .before .args) .f .«omit_lease_root_epoch»)) (LeasesExpired (expired ((c .before .before .before .before .before .before .before .before .before .before .before .before .before .before .before .before .before .before .before .before .before .before .before .before .before .before .before .pre) .state) ((c .before .before .before .before .before .before .before .before .before .before .before .before .before .before .before .before .before .before .before .before .before .before .before .before .before .before .before .args) .a .«next_tick»))) 0 ((c .before .before .before .before .before .before .before .before .before .with-leases) .result)
+    ((c .before .before .before .before .before .before .before .before .body-parts) .result) (PublicationOutcome.LeasesExpired (expiredAt ((c .before .before .before .before .before .before .before .before .before .before .before .before .before .before .before .before .before .before .before .before .before .before .before .before .before .before .before .args) .c) ((c .before .before .before .before .before .before .before .before .before .before .before .before .before .before .before .before .before .before .before .before .before .before .before .before .before .before .before .args) .a .«next_tick») ((c .before .before .before .before .before .before .before .before .before .before .before .before .before .before .count-rows) .result .ended)))
+    (onward (c .before .before .before .before .before .before .before .before .before .before .before .before .before .before .before .before .before .before .before .before .before .before .before .before .before .before .before .pre) ((c .before .before .before .before .before .before .before .before .before .before .before .before .before .before .before .before .before .before .if1) .left) ((c .before .before .before .before .before .before .before .before .before .before .before .before .before .before .before .before .if2) .left))
+    (advance-shows (c .before .before .before .before .before .before .before .before .before .before .before .before .before .before .before .before .before .before .before .before .before .before .before .before .before .before .before .pre) _ _ _ _ _ _ ((c .before .before .before .before .before .before .before .before .before .before .before .before .before .before .before .policy-for) .ensures) ((c .before .before .before .before .before .before .before .before .before .before .before .before .before .before .count-rows) .ensures) ((c .before .before .before .before .before .before .before .before .before .before .before .before .before .up-if) .ensures) ((c .before .before .before .before .before .before .before .before .before .before .before .before .root-after) .ensures) ((c .before .before .before .before .before .before .before .before .before .before .before .readable-for) .ensures) ((c .before .before .before .before .before .before .before .before .before .before .less) .ensures) _ ((c .before .before .before .before .before .before .before .before .before .with-leases) .ensures))
+    (advance-tables (c .before .before .before .before .before .before .before .before .before .before .before .before .before .before .before .before .before .before .before .before .before .before .before .before .before .before .before .pre) ((c .before .before .before .before .before .before .before .before .body-parts) .ensures))
+    (advance-told (c .before .before .before .before .before .before .before .before .before .before .before .before .before .before .before .before .before .before .before .before .before .before .before .before .before .before .before .pre) ((c .before .before .before .before .before .before .before .before .before .before .before .before .before .before .before .policy-for) .result) ((c .before .before .before .before .before .before .before .before .before .before .before .before .before .before .count-rows) .ensures))
     ((c .before .before .before .before .emit) .ensures)
 
 pub advance-lease-clock-spec : {M : Type 1} → statement M
@@ -85,9 +80,7 @@ advance-lease-clock-spec =
     less-requires
     with-leases-requires
     body-parts-requires
-    told-parts-requires
     slice-aggregate-emit
-    slice-aggregate-emit-2
     emit-requires
     same-length
     same-length-2

@@ -1,5 +1,6 @@
 use native.Mathlib.Omega.{arith}
-use Rattle.clock.specs.Parts.{one-long, one-filled, body-is}
+use Rattle.next.specs.Added.{one-long, one-filled}
+use Rattle.clock.specs.Parts.{body-is}
 use borrow.Author.Needs.{needs}
 use Rattle.clock.proofs.body_parts.Statement.{statement}
 use Rattle.clock.proofs.body_parts.Tie as tie

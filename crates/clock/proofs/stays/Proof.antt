@@ -4,8 +4,10 @@ use mathlib.Core.Bool.{cond}
 use mathlib.Core.List.{[]}
 use native.Mathlib.Omega.{arith}
 use lib.ListN.{drop}
-use Rattle.clock.specs.Due.{due, rowOf, keptBytes}
-use Rattle.clock.specs.Parts.{Adding, adding-start, adding-on, adding-end, kept-more, kept-run, kept-none}
+use Rattle.next.specs.Due.{due}
+use Rattle.next.specs.Added.{Adding, adding-start, adding-on, adding-end}
+use Rattle.clock.specs.Due.{rowOf, keptBytes}
+use Rattle.clock.specs.Parts.{kept-more, kept-run, kept-none}
 use Rattle.clock.proofs.stays.Statement.{statement}
 use Rattle.clock.proofs.stays.Tie as tie
 

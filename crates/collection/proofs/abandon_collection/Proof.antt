@@ -4,8 +4,9 @@ use Rattle.machine.specs.Actions.{Applied}
 use Rattle.machine.specs.Next.{collection-abandoned}
 use Rattle.requests.specs.Meaning.{textOf}
 use Rattle.next.specs.Call.{refused, done}
-use Rattle.next.specs.Kept.{applied-told}
+use Rattle.next.specs.Outcome.{applied-told}
 use Rattle.collection.specs.Abandon.{job-missing, job-differs, other-owner, abandoned, abandoned-shows, abandoned-small, abandoned-body}
+use Rattle.next.specs.declared.PublicationOutcome.{PublicationOutcome}
 use borrow.Author.Needs.{needs}
 use Rattle.collection.proofs.abandon_collection.Statement.{statement}
 use Rattle.collection.proofs.abandon_collection.Tie as tie
@@ -61,11 +62,8 @@ less-requires c κs = search needs
 slice-aggregate-emit : tie.Need-slice-aggregate-emit
 slice-aggregate-emit c = search needs
 
-slice-aggregate-emit-2 : tie.Need-slice-aggregate-emit-2
-slice-aggregate-emit-2 c = search needs
-
 emit-requires : tie.Need-emit-requires
-emit-requires c κs = abandoned-small (c .before .before .before .before .before .before .before .before .before .before .before .before .before .before .before .before .before .before .before .before .before .before .before .before .before .before .before .before .pre) _ ((c .before .before .before .before .before .before .before .before .before .before .before .before .before .before .before .before .before .before .before .clip) .ensures) _ ((c .before .before .before .before .before .before .before .before .before .before .before .before .before .before .before .before .before .locate) .ensures) _ ((c .before .before .before .before .before .before .after-remove) .ensures) _ ((c .before .before .before .before .before .contents-after) .ensures)
+emit-requires c κs = (abandoned-small (c .before .before .before .before .before .before .before .before .before .before .before .before .before .before .before .before .before .before .before .before .before .before .before .before .before .before .before .pre) _ ((c .before .before .before .before .before .before .before .before .before .before .before .before .before .before .before .before .before .before .clip) .ensures) _ ((c .before .before .before .before .before .before .before .before .before .before .before .before .before .before .before .before .locate) .ensures) _ ((c .before .before .before .before .before .after-remove) .ensures) _ ((c .before .before .before .before .contents-after) .ensures), tt)
 
 same-length : tie.Need-same-length
 same-length c = search needs
@@ -74,11 +72,11 @@ same-length-2 : tie.Need-same-length-2
 same-length-2 c = search needs
 
 returns-4 : tie.Need-returns-4
-returns-4 c = done (c .before .before .before .before .before .before .before .before .before .before .before .before .before .before .before .before .before .before .before .before .before .before .before .before .before .before .before .before .before .before .before .before .before .pre) (collection-abandoned ((c .before .before .before .before .before .before .before .before .before .before .before .before .before .before .before .before .before .before .before .before .before .before .before .before .before .before .before .before .before .before .before .before .before .pre) .state) (textOf ((c .before .before .before .before .before .before .before .before .before .before .before .before .before .before .before .before .before .before .before .before .before .before .before .before .before .before .before .before .before .before .before .before .before .args) .request .now) ((c .before .before .before .before .before .before .before .before .before .before .before .before .before .before .before .before .before .before .before .before .before .before .before .before .before .before .before .before .before .before .before .before .before .args) .a .«job_id»))) Applied 0 ((c .before .before .before .before .before .before .before .before .before .before .contents-after) .result) (0 ∷ (c .before .before .before .before .before .before .before .before .before .before .before .before .before .before .before .before .before .before .before .before .before .before .before .before .before .before .before .before .before .before .before .before .before .args) .c .intents .at ∷ (c .before .before .before .before .before .before .before .before .before .less) .result ∷ 0 ∷ (c .before .before .before .before .before .before .before .before .before .before .before .before .before .before .before .before .before .before .before .before .before .before .locate) .result .end ∷ length ((c .before .before .before .before .before .before .before .before .before .before .before .before .before .before .before .before .before .before .before .before .before .before .before .before .before .before .before .before .before .before .before .before .before .args) .image .now) ∷ []) (2 ∷ 0 ∷ 1 ∷ [])
-    (abandoned (c .before .before .before .before .before .before .before .before .before .before .before .before .before .before .before .before .before .before .before .before .before .before .before .before .before .before .before .before .before .before .before .before .before .pre) _ ((c .before .before .before .before .before .before .before .before .before .before .before .before .before .before .before .before .before .before .before .before .before .before .before .before .clip) .ensures) _ ((c .before .before .before .before .before .before .before .before .before .before .before .before .before .before .before .before .before .before .before .before .before .before .locate) .ensures) ((c .before .before .before .before .before .before .before .before .before .before .before .before .before .before .before .before .before .before .before .before .if1) .left) _ _ ((c .before .before .before .before .before .before .before .before .before .before .before .before .before .before .before .before .before .before .clip2) .ensures) ((c .before .before .before .before .before .before .before .before .before .before .before .before .before .before .before .before .before .clip3) .ensures) _ ((c .before .before .before .before .before .before .before .before .before .before .before .before .before .before .before .before .same) .ensures) ((c .before .before .before .before .before .before .before .before .before .before .before .before .before .before .before .if2) .left) ((c .before .before .before .before .before .before .before .before .before .before .before .before .if3) .left))
-    (abandoned-shows (c .before .before .before .before .before .before .before .before .before .before .before .before .before .before .before .before .before .before .before .before .before .before .before .before .before .before .before .before .before .before .before .before .before .pre) _ ((c .before .before .before .before .before .before .before .before .before .before .before .before .before .before .before .before .before .before .before .before .before .before .before .before .clip) .ensures) _ ((c .before .before .before .before .before .before .before .before .before .before .before .before .before .before .before .before .before .before .before .before .before .before .locate) .ensures) _ ((c .before .before .before .before .before .before .before .before .before .before .before .after-remove) .ensures) _ ((c .before .before .before .before .before .before .before .before .before .before .contents-after) .ensures))
-    (abandoned-body (c .before .before .before .before .before .before .before .before .before .before .before .before .before .before .before .before .before .before .before .before .before .before .before .before .before .before .before .before .before .before .before .before .before .pre) _ ((c .before .before .before .before .before .before .before .before .before .before .before .before .before .before .before .before .before .before .before .before .before .before .before .before .clip) .ensures) _ ((c .before .before .before .before .before .before .before .before .before .before .before .before .before .before .before .before .before .before .before .before .before .before .locate) .ensures) _ ((c .before .before .before .before .before .before .before .before .before .less) .ensures))
-    (applied-told ((c .before .before .before .before .before .before .before .before .before .before .before .before .before .before .before .before .before .before .before .before .before .before .before .before .before .before .before .before .before .before .before .before .before .args) .image .now) ((c .before .before .before .before .before .before .before .before .before .before .before .before .before .before .before .before .before .before .before .before .before .before .before .before .before .before .before .before .before .before .before .before .before .args) .request .now))
+returns-4 c = done (c .before .before .before .before .before .before .before .before .before .before .before .before .before .before .before .before .before .before .before .before .before .before .before .before .before .before .before .before .before .before .before .before .pre) (collection-abandoned ((c .before .before .before .before .before .before .before .before .before .before .before .before .before .before .before .before .before .before .before .before .before .before .before .before .before .before .before .before .before .before .before .before .pre) .state) (textOf ((c .before .before .before .before .before .before .before .before .before .before .before .before .before .before .before .before .before .before .before .before .before .before .before .before .before .before .before .before .before .before .before .before .args) .request .now) ((c .before .before .before .before .before .before .before .before .before .before .before .before .before .before .before .before .before .before .before .before .before .before .before .before .before .before .before .before .before .before .before .before .args) .a .«job_id»))) Applied 0 ((c .before .before .before .before .before .before .before .before .before .contents-after) .result) (0 ∷ (c .before .before .before .before .before .before .before .before .before .before .before .before .before .before .before .before .before .before .before .before .before .before .before .before .before .before .before .before .before .before .before .before .args) .c .intents .at ∷ (c .before .before .before .before .before .before .before .before .less) .result ∷ 0 ∷ (c .before .before .before .before .before .before .before .before .before .before .before .before .before .before .before .before .before .before .before .before .before .locate) .result .end ∷ length ((c .before .before .before .before .before .before .before .before .before .before .before .before .before .before .before .before .before .before .before .before .before .before .before .before .before .before .before .before .before .before .before .before .args) .image .now) ∷ []) PublicationOutcome.Applied
+    (abandoned (c .before .before .before .before .before .before .before .before .before .before .before .before .before .before .before .before .before .before .before .before .before .before .before .before .before .before .before .before .before .before .before .before .pre) _ ((c .before .before .before .before .before .before .before .before .before .before .before .before .before .before .before .before .before .before .before .before .before .before .before .clip) .ensures) _ ((c .before .before .before .before .before .before .before .before .before .before .before .before .before .before .before .before .before .before .before .before .before .locate) .ensures) ((c .before .before .before .before .before .before .before .before .before .before .before .before .before .before .before .before .before .before .before .if1) .left) _ _ ((c .before .before .before .before .before .before .before .before .before .before .before .before .before .before .before .before .before .clip2) .ensures) ((c .before .before .before .before .before .before .before .before .before .before .before .before .before .before .before .before .clip3) .ensures) _ ((c .before .before .before .before .before .before .before .before .before .before .before .before .before .before .before .same) .ensures) ((c .before .before .before .before .before .before .before .before .before .before .before .before .before .before .if2) .left) ((c .before .before .before .before .before .before .before .before .before .before .before .if3) .left))
+    (abandoned-shows (c .before .before .before .before .before .before .before .before .before .before .before .before .before .before .before .before .before .before .before .before .before .before .before .before .before .before .before .before .before .before .before .before .pre) _ ((c .before .before .before .before .before .before .before .before .before .before .before .before .before .before .before .before .before .before .before .before .before .before .before .clip) .ensures) _ ((c .before .before .before .before .before .before .before .before .before .before .before .before .before .before .before .before .before .before .before .before .before .locate) .ensures) _ ((c .before .before .before .before .before .before .before .before .before .before .after-remove) .ensures) _ ((c .before .before .before .before .before .before .before .before .before .contents-after) .ensures))
+    (abandoned-body (c .before .before .before .before .before .before .before .before .before .before .before .before .before .before .before .before .before .before .before .before .before .before .before .before .before .before .before .before .before .before .before .before .pre) _ ((c .before .before .before .before .before .before .before .before .before .before .before .before .before .before .before .before .before .before .before .before .before .before .before .clip) .ensures) _ ((c .before .before .before .before .before .before .before .before .before .before .before .before .before .before .before .before .before .before .before .before .before .locate) .ensures) _ ((c .before .before .before .before .before .before .before .before .less) .ensures))
+    (applied-told ((c .before .before .before .before .before .before .before .before .before .before .before .before .before .before .before .before .before .before .before .before .before .before .before .before .before .before .before .before .before .before .before .before .args) .image .now) ((c .before .before .before .before .before .before .before .before .before .before .before .before .before .before .before .before .before .before .before .before .before .before .before .before .before .before .before .before .before .before .before .before .args) .request .now))
     ((c .before .before .before .before .emit) .ensures)
 
 pub abandon-collection-spec : {M : Type 1} → statement M
@@ -102,7 +100,6 @@ abandon-collection-spec =
     contents-after-requires
     less-requires
     slice-aggregate-emit
-    slice-aggregate-emit-2
     emit-requires
     same-length
     same-length-2

@@ -7,11 +7,12 @@ use Rattle.machine.specs.Actions.{Applied}
 use Rattle.machine.specs.Next.{pinned}
 use Rattle.requests.specs.Meaning.{textOf, referenceOf, maybeReferenceOf, contextOf, faultsOf}
 use Rattle.next.specs.Call.{refused, done}
-use Rattle.next.specs.Kept.{applied-told}
+use Rattle.next.specs.Outcome.{applied-told}
 use Rattle.publication.specs.Tests.{denied, granted}
 use Rattle.publication.specs.Stays.{tables-bounded}
 use Rattle.publication.specs.PinRule.{pin-unnamed, pin-data, pin-invalid, pin-other, pin-taken}
 use Rattle.publication.specs.PinCall.{pin-bounds, pin-compares, bytes-bound, pin-small, pin-shows, pinned-tables}
+use Rattle.next.specs.declared.PublicationOutcome.{PublicationOutcome}
 use borrow.Author.Needs.{needs}
 use Rattle.publication.proofs.pin.Statement.{statement}
 use Rattle.publication.proofs.pin.Tie as tie
@@ -94,11 +95,8 @@ less-requires-2 c κs = search needs
 slice-aggregate-emit : tie.Need-slice-aggregate-emit
 slice-aggregate-emit c = search needs
 
-slice-aggregate-emit-2 : tie.Need-slice-aggregate-emit-2
-slice-aggregate-emit-2 c = search needs
-
 emit-requires : tie.Need-emit-requires
-emit-requires c κs = pin-small (c .before .before .before .before .before .before .before .before .before .before .before .before .before .before .before .before .before .before .before .before .before .before .before .before .before .before .before .before .before .pre) _ ((c .before .before .before .before .before .before .before .before .before .before .before .before .before .clip) .ensures) _ ((c .before .before .before .before .before .before .before .before .before .before .before .locate) .ensures) _ ((c .before .before .before .before .before .before .before .before .before .before .option-at) .ensures) _ ((c .before .before .before .before .before .before .before .less) .ensures) _ _ ((c .before .before .before .before .before .before .after-insert) .ensures) ((c .before .before .before .before .before .after-change) .ensures)
+emit-requires c κs = (pin-small (c .before .before .before .before .before .before .before .before .before .before .before .before .before .before .before .before .before .before .before .before .before .before .before .before .before .before .before .before .pre) _ ((c .before .before .before .before .before .before .before .before .before .before .before .before .clip) .ensures) _ ((c .before .before .before .before .before .before .before .before .before .before .locate) .ensures) _ ((c .before .before .before .before .before .before .before .before .before .option-at) .ensures) _ ((c .before .before .before .before .before .before .less) .ensures) _ _ ((c .before .before .before .before .before .after-insert) .ensures) ((c .before .before .before .before .after-change) .ensures), tt)
 
 same-length : tie.Need-same-length
 same-length c = search needs
@@ -107,11 +105,11 @@ same-length-2 : tie.Need-same-length-2
 same-length-2 c = search needs
 
 returns-5 : tie.Need-returns-5
-returns-5 c = done (c .before .before .before .before .before .before .before .before .before .before .before .before .before .before .before .before .before .before .before .before .before .before .before .before .before .before .before .before .before .before .before .before .before .before .pre) (pinned ((c .before .before .before .before .before .before .before .before .before .before .before .before .before .before .before .before .before .before .before .before .before .before .before .before .before .before .before .before .before .before .before .before .before .before .pre) .state) (textOf ((c .before .before .before .before .before .before .before .before .before .before .before .before .before .before .before .before .before .before .before .before .before .before .before .before .before .before .before .before .before .before .before .before .before .before .args) .request .now) ((c .before .before .before .before .before .before .before .before .before .before .before .before .before .before .before .before .before .before .before .before .before .before .before .before .before .before .before .before .before .before .before .before .before .before .args) .a .«pin_id»)) (referenceOf ((c .before .before .before .before .before .before .before .before .before .before .before .before .before .before .before .before .before .before .before .before .before .before .before .before .before .before .before .before .before .before .before .before .before .before .args) .request .now) ((c .before .before .before .before .before .before .before .before .before .before .before .before .before .before .before .before .before .before .before .before .before .before .before .before .before .before .before .before .before .before .before .before .before .before .args) .a .manifest))) Applied 0 ((c .before .before .before .before .before .before .before .before .before .before .after-change) .result) (0 ∷ (c .before .before .before .before .before .before .before .before .before .before .before .before .before .before .before .before .before .before .before .before .before .before .before .before .before .before .before .before .before .before .before .before .before .before .args) .c .intents .at ∷ (c .before .before .before .before .before .before .before .before .before .less2) .result ∷ 1 ∷ 27 ∷ (length ((c .before .before .before .before .before .before .before .before .before .before .before .before .before .before .before .before .before .before .clip) .result .now) + 1) ∷ 1 ∷ (27 + (length ((c .before .before .before .before .before .before .before .before .before .before .before .before .before .before .before .before .before .before .clip) .result .now) + 1) + length ((c .before .before .before .before .before .before .before .before .before .before .before .before .before .before .before .option-at) .result .now)) ∷ length ((c .before .before .before .before .before .before .before .before .before .before .before .before .before .before .before .before .before .before .before .before .before .before .before .before .before .before .before .before .before .before .before .before .before .before .args) .request .now) ∷ 0 ∷ (c .before .before .before .before .before .before .before .before .before .before .before .before .before .before .before .before .locate) .result .end ∷ length ((c .before .before .before .before .before .before .before .before .before .before .before .before .before .before .before .before .before .before .before .before .before .before .before .before .before .before .before .before .before .before .before .before .before .before .args) .image .now) ∷ []) (2 ∷ 0 ∷ 1 ∷ [])
-    (pin-taken ((c .before .before .before .before .before .before .before .before .before .before .before .before .before .before .before .before .before .before .before .before .before .before .before .before .before .before .before .before .before .before .before .before .before .before .pre) .state) (textOf ((c .before .before .before .before .before .before .before .before .before .before .before .before .before .before .before .before .before .before .before .before .before .before .before .before .before .before .before .before .before .before .before .before .before .before .args) .request .now) ((c .before .before .before .before .before .before .before .before .before .before .before .before .before .before .before .before .before .before .before .before .before .before .before .before .before .before .before .before .before .before .before .before .before .before .args) .a .«pin_id»)) (maybeReferenceOf ((c .before .before .before .before .before .before .before .before .before .before .before .before .before .before .before .before .before .before .before .before .before .before .before .before .before .before .before .before .before .before .before .before .before .before .args) .request .now) ((c .before .before .before .before .before .before .before .before .before .before .before .before .before .before .before .before .before .before .before .before .before .before .before .before .before .before .before .before .before .before .before .before .before .before .args) .a .expected)) (referenceOf ((c .before .before .before .before .before .before .before .before .before .before .before .before .before .before .before .before .before .before .before .before .before .before .before .before .before .before .before .before .before .before .before .before .before .before .args) .request .now) ((c .before .before .before .before .before .before .before .before .before .before .before .before .before .before .before .before .before .before .before .before .before .before .before .before .before .before .before .before .before .before .before .before .before .before .args) .a .manifest)) (contextOf ((c .before .before .before .before .before .before .before .before .before .before .before .before .before .before .before .before .before .before .before .before .before .before .before .before .before .before .before .before .before .before .before .before .before .before .args) .x)) (faultsOf ((c .before .before .before .before .before .before .before .before .before .before .before .before .before .before .before .before .before .before .before .before .before .before .before .before .before .before .before .before .before .before .before .before .before .before .args) .f)) (sym ((c .before .before .before .before .before .before .before .before .before .before .before .before .before .before .before .before .before .before .before .before .before .before .before .before .before .before .before .is-empty) .ensures) ∙ (c .before .before .before .before .before .before .before .before .before .before .before .before .before .before .before .before .before .before .before .before .before .before .before .before .before .before .if1) .left) (granted _ _ ((c .before .before .before .before .before .before .before .before .before .before .before .before .before .before .before .before .before .before .before .before .before .before .before .before .before .is-manifest) .ensures) ((c .before .before .before .before .before .before .before .before .before .before .before .before .before .before .before .before .before .before .before .before .before .before .before .before .if2) .left)) (granted _ _ ((c .before .before .before .before .before .before .before .before .before .before .before .before .before .before .before .before .before .before .before .before .before .before .before .valid-reference) .ensures) ((c .before .before .before .before .before .before .before .before .before .before .before .before .before .before .before .before .before .before .before .before .before .before .if3) .left)) (granted _ _ (pin-compares (c .before .before .before .before .before .before .before .before .before .before .before .before .before .before .before .before .before .before .before .before .before .before .before .before .before .before .before .before .before .before .before .before .before .before .pre) _ ((c .before .before .before .before .before .before .before .before .before .before .before .before .before .before .before .before .before .before .clip) .ensures) _ ((c .before .before .before .before .before .before .before .before .before .before .before .before .before .before .before .before .locate) .ensures) _ ((c .before .before .before .before .before .before .before .before .before .before .before .before .before .before .before .option-at) .ensures) _ ((c .before .before .before .before .before .before .before .before .before .before .before .before .before .before .is-expected) .ensures)) ((c .before .before .before .before .before .before .before .before .before .before .before .before .before .if4) .left)))
-    (pin-shows (c .before .before .before .before .before .before .before .before .before .before .before .before .before .before .before .before .before .before .before .before .before .before .before .before .before .before .before .before .before .before .before .before .before .before .pre) _ ((c .before .before .before .before .before .before .before .before .before .before .before .before .before .before .before .before .before .before .clip) .ensures) _ ((c .before .before .before .before .before .before .before .before .before .before .before .before .before .before .before .before .locate) .ensures) _ ((c .before .before .before .before .before .before .before .before .before .before .before .before .before .before .before .option-at) .ensures) _ ((c .before .before .before .before .before .before .before .before .before .before .before .before .less) .ensures) _ _ ((c .before .before .before .before .before .before .before .before .before .before .before .after-insert) .ensures) ((c .before .before .before .before .before .before .before .before .before .before .after-change) .ensures))
-    (pinned-tables (c .before .before .before .before .before .before .before .before .before .before .before .before .before .before .before .before .before .before .before .before .before .before .before .before .before .before .before .before .before .before .before .before .before .before .pre) _ ((c .before .before .before .before .before .before .before .before .before .before .before .before .before .before .before .before .before .before .clip) .ensures) _ ((c .before .before .before .before .before .before .before .before .before .before .before .before .before .before .before .before .locate) .ensures) _ ((c .before .before .before .before .before .before .before .before .before .before .before .before .before .before .before .option-at) .ensures) _ ((c .before .before .before .before .before .before .before .before .before .less2) .ensures))
-    (applied-told ((c .before .before .before .before .before .before .before .before .before .before .before .before .before .before .before .before .before .before .before .before .before .before .before .before .before .before .before .before .before .before .before .before .before .before .args) .image .now) ((c .before .before .before .before .before .before .before .before .before .before .before .before .before .before .before .before .before .before .before .before .before .before .before .before .before .before .before .before .before .before .before .before .before .before .args) .request .now))
+returns-5 c = done (c .before .before .before .before .before .before .before .before .before .before .before .before .before .before .before .before .before .before .before .before .before .before .before .before .before .before .before .before .before .before .before .before .before .pre) (pinned ((c .before .before .before .before .before .before .before .before .before .before .before .before .before .before .before .before .before .before .before .before .before .before .before .before .before .before .before .before .before .before .before .before .before .pre) .state) (textOf ((c .before .before .before .before .before .before .before .before .before .before .before .before .before .before .before .before .before .before .before .before .before .before .before .before .before .before .before .before .before .before .before .before .before .args) .request .now) ((c .before .before .before .before .before .before .before .before .before .before .before .before .before .before .before .before .before .before .before .before .before .before .before .before .before .before .before .before .before .before .before .before .before .args) .a .«pin_id»)) (referenceOf ((c .before .before .before .before .before .before .before .before .before .before .before .before .before .before .before .before .before .before .before .before .before .before .before .before .before .before .before .before .before .before .before .before .before .args) .request .now) ((c .before .before .before .before .before .before .before .before .before .before .before .before .before .before .before .before .before .before .before .before .before .before .before .before .before .before .before .before .before .before .before .before .before .args) .a .manifest))) Applied 0 ((c .before .before .before .before .before .before .before .before .before .after-change) .result) (0 ∷ (c .before .before .before .before .before .before .before .before .before .before .before .before .before .before .before .before .before .before .before .before .before .before .before .before .before .before .before .before .before .before .before .before .before .args) .c .intents .at ∷ (c .before .before .before .before .before .before .before .before .less2) .result ∷ 1 ∷ 27 ∷ (length ((c .before .before .before .before .before .before .before .before .before .before .before .before .before .before .before .before .before .clip) .result .now) + 1) ∷ 1 ∷ (27 + (length ((c .before .before .before .before .before .before .before .before .before .before .before .before .before .before .before .before .before .clip) .result .now) + 1) + length ((c .before .before .before .before .before .before .before .before .before .before .before .before .before .before .option-at) .result .now)) ∷ length ((c .before .before .before .before .before .before .before .before .before .before .before .before .before .before .before .before .before .before .before .before .before .before .before .before .before .before .before .before .before .before .before .before .before .args) .request .now) ∷ 0 ∷ (c .before .before .before .before .before .before .before .before .before .before .before .before .before .before .before .locate) .result .end ∷ length ((c .before .before .before .before .before .before .before .before .before .before .before .before .before .before .before .before .before .before .before .before .before .before .before .before .before .before .before .before .before .before .before .before .before .args) .image .now) ∷ []) PublicationOutcome.Applied
+    (pin-taken ((c .before .before .before .before .before .before .before .before .before .before .before .before .before .before .before .before .before .before .before .before .before .before .before .before .before .before .before .before .before .before .before .before .before .pre) .state) (textOf ((c .before .before .before .before .before .before .before .before .before .before .before .before .before .before .before .before .before .before .before .before .before .before .before .before .before .before .before .before .before .before .before .before .before .args) .request .now) ((c .before .before .before .before .before .before .before .before .before .before .before .before .before .before .before .before .before .before .before .before .before .before .before .before .before .before .before .before .before .before .before .before .before .args) .a .«pin_id»)) (maybeReferenceOf ((c .before .before .before .before .before .before .before .before .before .before .before .before .before .before .before .before .before .before .before .before .before .before .before .before .before .before .before .before .before .before .before .before .before .args) .request .now) ((c .before .before .before .before .before .before .before .before .before .before .before .before .before .before .before .before .before .before .before .before .before .before .before .before .before .before .before .before .before .before .before .before .before .args) .a .expected)) (referenceOf ((c .before .before .before .before .before .before .before .before .before .before .before .before .before .before .before .before .before .before .before .before .before .before .before .before .before .before .before .before .before .before .before .before .before .args) .request .now) ((c .before .before .before .before .before .before .before .before .before .before .before .before .before .before .before .before .before .before .before .before .before .before .before .before .before .before .before .before .before .before .before .before .before .args) .a .manifest)) (contextOf ((c .before .before .before .before .before .before .before .before .before .before .before .before .before .before .before .before .before .before .before .before .before .before .before .before .before .before .before .before .before .before .before .before .before .args) .x)) (faultsOf ((c .before .before .before .before .before .before .before .before .before .before .before .before .before .before .before .before .before .before .before .before .before .before .before .before .before .before .before .before .before .before .before .before .before .args) .f)) (sym ((c .before .before .before .before .before .before .before .before .before .before .before .before .before .before .before .before .before .before .before .before .before .before .before .before .before .before .is-empty) .ensures) ∙ (c .before .before .before .before .before .before .before .before .before .before .before .before .before .before .before .before .before .before .before .before .before .before .before .before .before .if1) .left) (granted _ _ ((c .before .before .before .before .before .before .before .before .before .before .before .before .before .before .before .before .before .before .before .before .before .before .before .before .is-manifest) .ensures) ((c .before .before .before .before .before .before .before .before .before .before .before .before .before .before .before .before .before .before .before .before .before .before .before .if2) .left)) (granted _ _ ((c .before .before .before .before .before .before .before .before .before .before .before .before .before .before .before .before .before .before .before .before .before .before .valid-reference) .ensures) ((c .before .before .before .before .before .before .before .before .before .before .before .before .before .before .before .before .before .before .before .before .before .if3) .left)) (granted _ _ (pin-compares (c .before .before .before .before .before .before .before .before .before .before .before .before .before .before .before .before .before .before .before .before .before .before .before .before .before .before .before .before .before .before .before .before .before .pre) _ ((c .before .before .before .before .before .before .before .before .before .before .before .before .before .before .before .before .before .clip) .ensures) _ ((c .before .before .before .before .before .before .before .before .before .before .before .before .before .before .before .locate) .ensures) _ ((c .before .before .before .before .before .before .before .before .before .before .before .before .before .before .option-at) .ensures) _ ((c .before .before .before .before .before .before .before .before .before .before .before .before .before .is-expected) .ensures)) ((c .before .before .before .before .before .before .before .before .before .before .before .before .if4) .left)))
+    (pin-shows (c .before .before .before .before .before .before .before .before .before .before .before .before .before .before .before .before .before .before .before .before .before .before .before .before .before .before .before .before .before .before .before .before .before .pre) _ ((c .before .before .before .before .before .before .before .before .before .before .before .before .before .before .before .before .before .clip) .ensures) _ ((c .before .before .before .before .before .before .before .before .before .before .before .before .before .before .before .locate) .ensures) _ ((c .before .before .before .before .before .before .before .before .before .before .before .before .before .before .option-at) .ensures) _ ((c .before .before .before .before .before .before .before .before .before .before .before .less) .ensures) _ _ ((c .before .before .before .before .before .before .before .before .before .before .after-insert) .ensures) ((c .before .before .before .before .before .before .before .before .before .after-change) .ensures))
+    (pinned-tables (c .before .before .before .before .before .before .before .before .before .before .before .before .before .before .before .before .before .before .before .before .before .before .before .before .before .before .before .before .before .before .before .before .before .pre) _ ((c .before .before .before .before .before .before .before .before .before .before .before .before .before .before .before .before .before .clip) .ensures) _ ((c .before .before .before .before .before .before .before .before .before .before .before .before .before .before .before .locate) .ensures) _ ((c .before .before .before .before .before .before .before .before .before .before .before .before .before .before .option-at) .ensures) _ ((c .before .before .before .before .before .before .before .before .less2) .ensures))
+    (applied-told ((c .before .before .before .before .before .before .before .before .before .before .before .before .before .before .before .before .before .before .before .before .before .before .before .before .before .before .before .before .before .before .before .before .before .args) .image .now) ((c .before .before .before .before .before .before .before .before .before .before .before .before .before .before .before .before .before .before .before .before .before .before .before .before .before .before .before .before .before .before .before .before .before .args) .request .now))
     ((c .before .before .before .before .emit) .ensures)
 
 pub pin-spec : {M : Type 1} → statement M
@@ -144,7 +142,6 @@ pin-spec =
     after-change-requires
     less-requires-2
     slice-aggregate-emit
-    slice-aggregate-emit-2
     emit-requires
     same-length
     same-length-2

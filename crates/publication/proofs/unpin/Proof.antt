@@ -6,10 +6,11 @@ use Rattle.machine.specs.Actions.{Applied}
 use Rattle.machine.specs.Next.{unpinned}
 use Rattle.requests.specs.Meaning.{textOf, referenceOf, contextOf, faultsOf}
 use Rattle.next.specs.Call.{refused, done}
-use Rattle.next.specs.Kept.{applied-told}
+use Rattle.next.specs.Outcome.{applied-told}
 use Rattle.publication.specs.UnpinRule.{unpin-unnamed, unpin-invalid, unpin-other, unpin-taken}
 use Rattle.publication.specs.UnpinCall.{unpin-found, unpin-compares, unpin-small, unpin-shows}
 use Rattle.publication.specs.Pins.{unpinned-body}
+use Rattle.next.specs.declared.PublicationOutcome.{PublicationOutcome}
 use borrow.Author.Needs.{needs}
 use Rattle.publication.proofs.unpin.Statement.{statement}
 use Rattle.publication.proofs.unpin.Tie as tie
@@ -71,11 +72,8 @@ less-requires c κs = search needs
 slice-aggregate-emit : tie.Need-slice-aggregate-emit
 slice-aggregate-emit c = search needs
 
-slice-aggregate-emit-2 : tie.Need-slice-aggregate-emit-2
-slice-aggregate-emit-2 c = search needs
-
 emit-requires : tie.Need-emit-requires
-emit-requires c κs = unpin-small (c .before .before .before .before .before .before .before .before .before .before .before .before .before .before .before .before .before .before .before .before .before .before .before .before .before .before .pre) _ ((c .before .before .before .before .before .before .before .before .before .before .before .before .clip) .ensures) _ ((c .before .before .before .before .before .before .before .before .before .before .locate) .ensures) _ _ ((c .before .before .before .before .before .before .after-remove) .ensures) ((c .before .before .before .before .before .after-change) .ensures)
+emit-requires c κs = (unpin-small (c .before .before .before .before .before .before .before .before .before .before .before .before .before .before .before .before .before .before .before .before .before .before .before .before .before .pre) _ ((c .before .before .before .before .before .before .before .before .before .before .before .clip) .ensures) _ ((c .before .before .before .before .before .before .before .before .before .locate) .ensures) _ _ ((c .before .before .before .before .before .after-remove) .ensures) ((c .before .before .before .before .after-change) .ensures), tt)
 
 same-length : tie.Need-same-length
 same-length c = search needs
@@ -84,11 +82,11 @@ same-length-2 : tie.Need-same-length-2
 same-length-2 c = search needs
 
 returns-4 : tie.Need-returns-4
-returns-4 c = done (c .before .before .before .before .before .before .before .before .before .before .before .before .before .before .before .before .before .before .before .before .before .before .before .before .before .before .before .before .before .before .before .pre) (unpinned ((c .before .before .before .before .before .before .before .before .before .before .before .before .before .before .before .before .before .before .before .before .before .before .before .before .before .before .before .before .before .before .before .pre) .state) (textOf ((c .before .before .before .before .before .before .before .before .before .before .before .before .before .before .before .before .before .before .before .before .before .before .before .before .before .before .before .before .before .before .before .args) .request .now) ((c .before .before .before .before .before .before .before .before .before .before .before .before .before .before .before .before .before .before .before .before .before .before .before .before .before .before .before .before .before .before .before .args) .a .«pin_id»))) Applied 0 ((c .before .before .before .before .before .before .before .before .before .before .after-change) .result) (0 ∷ (c .before .before .before .before .before .before .before .before .before .before .before .before .before .before .before .before .before .before .before .before .before .before .before .before .before .before .before .before .before .before .before .args) .c .intents .at ∷ (c .before .before .before .before .before .before .before .before .before .less) .result ∷ 0 ∷ (c .before .before .before .before .before .before .before .before .before .before .before .before .before .before .before .locate) .result .end ∷ length ((c .before .before .before .before .before .before .before .before .before .before .before .before .before .before .before .before .before .before .before .before .before .before .before .before .before .before .before .before .before .before .before .args) .image .now) ∷ []) (2 ∷ 0 ∷ 1 ∷ [])
-    (unpin-taken ((c .before .before .before .before .before .before .before .before .before .before .before .before .before .before .before .before .before .before .before .before .before .before .before .before .before .before .before .before .before .before .before .pre) .state) (textOf ((c .before .before .before .before .before .before .before .before .before .before .before .before .before .before .before .before .before .before .before .before .before .before .before .before .before .before .before .before .before .before .before .args) .request .now) ((c .before .before .before .before .before .before .before .before .before .before .before .before .before .before .before .before .before .before .before .before .before .before .before .before .before .before .before .before .before .before .before .args) .a .«pin_id»)) (referenceOf ((c .before .before .before .before .before .before .before .before .before .before .before .before .before .before .before .before .before .before .before .before .before .before .before .before .before .before .before .before .before .before .before .args) .request .now) ((c .before .before .before .before .before .before .before .before .before .before .before .before .before .before .before .before .before .before .before .before .before .before .before .before .before .before .before .before .before .before .before .args) .a .expected)) (contextOf ((c .before .before .before .before .before .before .before .before .before .before .before .before .before .before .before .before .before .before .before .before .before .before .before .before .before .before .before .before .before .before .before .args) .x)) (faultsOf ((c .before .before .before .before .before .before .before .before .before .before .before .before .before .before .before .before .before .before .before .before .before .before .before .before .before .before .before .before .before .before .before .args) .f)) (sym ((c .before .before .before .before .before .before .before .before .before .before .before .before .before .before .before .before .before .before .before .before .before .before .before .before .is-empty) .ensures) ∙ (c .before .before .before .before .before .before .before .before .before .before .before .before .before .before .before .before .before .before .before .before .before .before .before .if1) .left) (granted _ _ ((c .before .before .before .before .before .before .before .before .before .before .before .before .before .before .before .before .before .before .before .before .before .before .valid-reference) .ensures) ((c .before .before .before .before .before .before .before .before .before .before .before .before .before .before .before .before .before .before .before .before .before .if2) .left)) (granted _ _ (unpin-compares (c .before .before .before .before .before .before .before .before .before .before .before .before .before .before .before .before .before .before .before .before .before .before .before .before .before .before .before .before .before .before .before .pre) _ ((c .before .before .before .before .before .before .before .before .before .before .before .before .before .before .before .before .before .clip) .ensures) _ ((c .before .before .before .before .before .before .before .before .before .before .before .before .before .before .before .locate) .ensures) _ _ ((c .before .before .before .before .before .before .before .before .before .before .before .before .before .before .clip2) .ensures) ((c .before .before .before .before .before .before .before .before .before .before .before .before .before .row-holds) .ensures)) ((c .before .before .before .before .before .before .before .before .before .before .before .before .if3) .left)))
-    (unpin-shows (c .before .before .before .before .before .before .before .before .before .before .before .before .before .before .before .before .before .before .before .before .before .before .before .before .before .before .before .before .before .before .before .pre) _ ((c .before .before .before .before .before .before .before .before .before .before .before .before .before .before .before .before .before .clip) .ensures) _ ((c .before .before .before .before .before .before .before .before .before .before .before .before .before .before .before .locate) .ensures) _ _ ((c .before .before .before .before .before .before .before .before .before .before .before .after-remove) .ensures) ((c .before .before .before .before .before .before .before .before .before .before .after-change) .ensures))
-    (unpinned-body (c .before .before .before .before .before .before .before .before .before .before .before .before .before .before .before .before .before .before .before .before .before .before .before .before .before .before .before .before .before .before .before .pre) _ _ (unpin-found (c .before .before .before .before .before .before .before .before .before .before .before .before .before .before .before .before .before .before .before .before .before .before .before .before .before .before .before .before .before .before .before .pre) _ ((c .before .before .before .before .before .before .before .before .before .before .before .before .before .before .before .before .before .clip) .ensures) _ ((c .before .before .before .before .before .before .before .before .before .before .before .before .before .before .before .locate) .ensures)) _ ((c .before .before .before .before .before .before .before .before .before .less) .ensures))
-    (applied-told ((c .before .before .before .before .before .before .before .before .before .before .before .before .before .before .before .before .before .before .before .before .before .before .before .before .before .before .before .before .before .before .before .args) .image .now) ((c .before .before .before .before .before .before .before .before .before .before .before .before .before .before .before .before .before .before .before .before .before .before .before .before .before .before .before .before .before .before .before .args) .request .now))
+returns-4 c = done (c .before .before .before .before .before .before .before .before .before .before .before .before .before .before .before .before .before .before .before .before .before .before .before .before .before .before .before .before .before .before .pre) (unpinned ((c .before .before .before .before .before .before .before .before .before .before .before .before .before .before .before .before .before .before .before .before .before .before .before .before .before .before .before .before .before .before .pre) .state) (textOf ((c .before .before .before .before .before .before .before .before .before .before .before .before .before .before .before .before .before .before .before .before .before .before .before .before .before .before .before .before .before .before .args) .request .now) ((c .before .before .before .before .before .before .before .before .before .before .before .before .before .before .before .before .before .before .before .before .before .before .before .before .before .before .before .before .before .before .args) .a .«pin_id»))) Applied 0 ((c .before .before .before .before .before .before .before .before .before .after-change) .result) (0 ∷ (c .before .before .before .before .before .before .before .before .before .before .before .before .before .before .before .before .before .before .before .before .before .before .before .before .before .before .before .before .before .before .args) .c .intents .at ∷ (c .before .before .before .before .before .before .before .before .less) .result ∷ 0 ∷ (c .before .before .before .before .before .before .before .before .before .before .before .before .before .before .locate) .result .end ∷ length ((c .before .before .before .before .before .before .before .before .before .before .before .before .before .before .before .before .before .before .before .before .before .before .before .before .before .before .before .before .before .before .args) .image .now) ∷ []) PublicationOutcome.Applied
+    (unpin-taken ((c .before .before .before .before .before .before .before .before .before .before .before .before .before .before .before .before .before .before .before .before .before .before .before .before .before .before .before .before .before .before .pre) .state) (textOf ((c .before .before .before .before .before .before .before .before .before .before .before .before .before .before .before .before .before .before .before .before .before .before .before .before .before .before .before .before .before .before .args) .request .now) ((c .before .before .before .before .before .before .before .before .before .before .before .before .before .before .before .before .before .before .before .before .before .before .before .before .before .before .before .before .before .before .args) .a .«pin_id»)) (referenceOf ((c .before .before .before .before .before .before .before .before .before .before .before .before .before .before .before .before .before .before .before .before .before .before .before .before .before .before .before .before .before .before .args) .request .now) ((c .before .before .before .before .before .before .before .before .before .before .before .before .before .before .before .before .before .before .before .before .before .before .before .before .before .before .before .before .before .before .args) .a .expected)) (contextOf ((c .before .before .before .before .before .before .before .before .before .before .before .before .before .before .before .before .before .before .before .before .before .before .before .before .before .before .before .before .before .before .args) .x)) (faultsOf ((c .before .before .before .before .before .before .before .before .before .before .before .before .before .before .before .before .before .before .before .before .before .before .before .before .before .before .before .before .before .before .args) .f)) (sym ((c .before .before .before .before .before .before .before .before .before .before .before .before .before .before .before .before .before .before .before .before .before .before .before .is-empty) .ensures) ∙ (c .before .before .before .before .before .before .before .before .before .before .before .before .before .before .before .before .before .before .before .before .before .before .if1) .left) (granted _ _ ((c .before .before .before .before .before .before .before .before .before .before .before .before .before .before .before .before .before .before .before .before .before .valid-reference) .ensures) ((c .before .before .before .before .before .before .before .before .before .before .before .before .before .before .before .before .before .before .before .before .if2) .left)) (granted _ _ (unpin-compares (c .before .before .before .before .before .before .before .before .before .before .before .before .before .before .before .before .before .before .before .before .before .before .before .before .before .before .before .before .before .before .pre) _ ((c .before .before .before .before .before .before .before .before .before .before .before .before .before .before .before .before .clip) .ensures) _ ((c .before .before .before .before .before .before .before .before .before .before .before .before .before .before .locate) .ensures) _ _ ((c .before .before .before .before .before .before .before .before .before .before .before .before .before .clip2) .ensures) ((c .before .before .before .before .before .before .before .before .before .before .before .before .row-holds) .ensures)) ((c .before .before .before .before .before .before .before .before .before .before .before .if3) .left)))
+    (unpin-shows (c .before .before .before .before .before .before .before .before .before .before .before .before .before .before .before .before .before .before .before .before .before .before .before .before .before .before .before .before .before .before .pre) _ ((c .before .before .before .before .before .before .before .before .before .before .before .before .before .before .before .before .clip) .ensures) _ ((c .before .before .before .before .before .before .before .before .before .before .before .before .before .before .locate) .ensures) _ _ ((c .before .before .before .before .before .before .before .before .before .before .after-remove) .ensures) ((c .before .before .before .before .before .before .before .before .before .after-change) .ensures))
+    (unpinned-body (c .before .before .before .before .before .before .before .before .before .before .before .before .before .before .before .before .before .before .before .before .before .before .before .before .before .before .before .before .before .before .pre) _ _ (unpin-found (c .before .before .before .before .before .before .before .before .before .before .before .before .before .before .before .before .before .before .before .before .before .before .before .before .before .before .before .before .before .before .pre) _ ((c .before .before .before .before .before .before .before .before .before .before .before .before .before .before .before .before .clip) .ensures) _ ((c .before .before .before .before .before .before .before .before .before .before .before .before .before .before .locate) .ensures)) _ ((c .before .before .before .before .before .before .before .before .less) .ensures))
+    (applied-told ((c .before .before .before .before .before .before .before .before .before .before .before .before .before .before .before .before .before .before .before .before .before .before .before .before .before .before .before .before .before .before .args) .image .now) ((c .before .before .before .before .before .before .before .before .before .before .before .before .before .before .before .before .before .before .before .before .before .before .before .before .before .before .before .before .before .before .args) .request .now))
     ((c .before .before .before .before .emit) .ensures)
 
 pub unpin-spec : {M : Type 1} → statement M
@@ -114,7 +112,6 @@ unpin-spec =
     after-change-requires
     less-requires
     slice-aggregate-emit
-    slice-aggregate-emit-2
     emit-requires
     same-length
     same-length-2
