@@ -1,7 +1,8 @@
 // `apply`: an image and a request, of any bytes, to the next image and the outcome.
 ghost use mathlib.Core.Path.{_≡_};
 ghost use lib.ListN.{length};
-ghost use Rattle.parts.specs.Answer.{Gave};
+ghost use Rattle.parts.specs.Answer.{Gave, appliedOf, imageOf, outcomeOf};
+ghost use Rattle.parts.specs.Over.{over};
 ghost use Rattle.entries.specs.Bytes.{applyBytes};
 ghost use Rattle.next.specs.Call.{Ready};
 ghost use Rattle.transition.specs.Asked.{Asked};
@@ -217,7 +218,9 @@ fn apply_request(
 }
 
 pub fn apply(image: &[u8], request: &[u8], next: &mut [u8], outcome: &mut [u8]) -> Applied
-    ensures { λ r. ⌜ Gave (applyBytes (now (image .entry)) (now (request .entry)) (length (now (next .entry))) (length (now (outcome .entry)))) (now (next .entry)) (now (outcome .entry)) r (now (next .exit)) (now (outcome .exit)) ⌝ }
+    ensures answer { λ r. ⌜ r ≡ appliedOf (applyBytes (now (image .entry)) (now (request .entry)) (length (now (next .entry))) (length (now (outcome .entry)))) ⌝ }
+    ensures bytes { λ r. ⌜ now (next .exit) ≡ over (now (next .entry)) 0 (imageOf (applyBytes (now (image .entry)) (now (request .entry)) (length (now (next .entry))) (length (now (outcome .entry))))) ⌝ }
+    ensures told { λ r. ⌜ now (outcome .exit) ≡ over (now (outcome .entry)) 0 (outcomeOf (applyBytes (now (image .entry)) (now (request .entry)) (length (now (next .entry))) (length (now (outcome .entry))))) ⌝ }
 {
     let o = image::open(image);
     let Opened::Image(c) = o else {

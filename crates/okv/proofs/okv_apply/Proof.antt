@@ -14,7 +14,7 @@ same-length-2 : tie.Need-same-length-2
 same-length-2 c = search needs
 
 returns : tie.Need-returns
-returns c = (ap (λ (a : Applied). a .status) ((c .before .before .before .before .apply) .ensures .answer), (ap (λ (a : Applied). a .image) ((c .before .before .before .before .apply) .ensures .answer), (ap (λ (a : Applied). a .outcome) ((c .before .before .before .before .apply) .ensures .answer), ((c .before .before .before .before .apply) .ensures .image, (c .before .before .before .before .apply) .ensures .outcome))))
+returns c = (ap (λ (a : Applied). a .status) ((c .before .before .before .before .apply) .ensures .0), (ap (λ (a : Applied). a .image) ((c .before .before .before .before .apply) .ensures .0), (ap (λ (a : Applied). a .outcome) ((c .before .before .before .before .apply) .ensures .0), ((c .before .before .before .before .apply) .ensures .1 .0, (c .before .before .before .before .apply) .ensures .1 .1))))
 
 pub okv-apply-spec : {M : Type 1} → statement M
 okv-apply-spec = tie.close (tie.spec apply-requires same-length same-length-2 returns)

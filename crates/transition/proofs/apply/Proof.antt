@@ -21,7 +21,7 @@ refuse-requires : tie.Need-refuse-requires
 refuse-requires c κs = search needs
 
 returns : tie.Need-returns
-returns c = no-image ((c .before .before .before .before .before .before .before .before .args) .image .now) ((c .before .before .before .before .before .before .before .before .args) .request .now) (not-opened (decodeImage ((c .before .before .before .before .before .before .before .before .args) .image .now)) (sym ((c .before .enum-told) .given .1) ∙ (c .before .before .before .«open») .ensures)) ((c .refuse) .ensures)
+returns c = let g = no-image ((c .before .before .before .before .before .before .before .before .args) .image .now) ((c .before .before .before .before .before .before .before .before .args) .request .now) (not-opened (decodeImage ((c .before .before .before .before .before .before .before .before .args) .image .now)) (sym ((c .before .enum-told) .given .1) ∙ (c .before .before .before .«open») .ensures)) ((c .refuse) .ensures) in (g .answer, (g .image, g .outcome))
 
 parse-requires : tie.Need-parse-requires
 parse-requires c κs = search needs
@@ -39,7 +39,7 @@ apply-request-requires : tie.Need-apply-request-requires
 apply-request-requires c κs = asked-of ((c .before .before .before .before .before .before .before .before .before .before .before .before .before .before .args) .image .now) ((c .before .before .before .before .before .before .before .before .before .before .before .before .before .before .args) .request .now) _ _ (λ i. omega (arith, (c .before .before .before .before .before .before .before .before .before .before .before .before .before .shared-slice-known) .given i)) (λ i. omega (arith, (c .before .before .before .before .before .before .before .before .before .before .before .before .shared-slice-known2) .given i)) (sym ((c .before .before .before .before .before .before .before .o) .given .1) ∙ (c .before .before .before .before .before .before .before .before .before .«open») .ensures) (ap (parsedOf ((c .before .before .before .before .before .before .before .before .before .before .before .before .before .before .args) .request .now)) (sym ((c .before .before .before .p2) .given .1)) ∙ (c .before .before .before .before .before .parse) .ensures)
 
 returns-2 : tie.Need-returns-2
-returns-2 c = no-request ((c .before .before .before .before .before .before .before .before .before .before .before .before .before .args) .image .now) ((c .before .before .before .before .before .before .before .before .before .before .before .before .before .args) .request .now) _ _ (opened-state (decodeImage ((c .before .before .before .before .before .before .before .before .before .before .before .before .before .args) .image .now)) _ (sym ((c .before .before .before .before .before .before .o) .given .1) ∙ (c .before .before .before .before .before .before .before .before .«open») .ensures) .1) (sym (ap (parsedOf ((c .before .before .before .before .before .before .before .before .before .before .before .before .before .args) .request .now)) (sym ((c .before .before .p) .given .1)) ∙ (c .before .before .before .before .parse) .ensures)) ((c .refuse2) .ensures)
+returns-2 c = let g = no-request ((c .before .before .before .before .before .before .before .before .before .before .before .before .before .args) .image .now) ((c .before .before .before .before .before .before .before .before .before .before .before .before .before .args) .request .now) _ _ (opened-state (decodeImage ((c .before .before .before .before .before .before .before .before .before .before .before .before .before .args) .image .now)) _ (sym ((c .before .before .before .before .before .before .o) .given .1) ∙ (c .before .before .before .before .before .before .before .before .«open») .ensures) .1) (sym (ap (parsedOf ((c .before .before .before .before .before .before .before .before .before .before .before .before .before .args) .request .now)) (sym ((c .before .before .p) .given .1)) ∙ (c .before .before .before .before .parse) .ensures)) ((c .refuse2) .ensures) in (g .answer, (g .image, g .outcome))
 
 same-length : tie.Need-same-length
 same-length c = search needs
@@ -48,7 +48,7 @@ same-length-2 : tie.Need-same-length-2
 same-length-2 c = search needs
 
 returns-3 : tie.Need-returns-3
-returns-3 c = search needs
+returns-3 c = let g = (c .before .before .before .before .apply-request) .ensures in (g .answer, (g .image, g .outcome))
 
 pub apply-spec : {M : Type 1} → statement M
 apply-spec =
