@@ -175,32 +175,12 @@ fn put(out: &mut [u8], at: usize, x: &[u8]) -> usize
     at + i
 }
 
-// Four bytes in a row are compiled to one store.
-fn put_four(out: &mut [u8], at: usize, x: usize) -> usize
-    requires { ⌜ at + 4 ≤ length (now out) ⌝ }
-    ensures { λ r. ⌜ Wrote (now (out .entry)) at (digits 4 x) r (now (out .exit)) ⌝ }
-{
-    let y = x / 256;
-    let z = y / 256;
-    let w = z / 256;
-    out[at] = (x % 256) as u8;
-    out[at + 1] = (y % 256) as u8;
-    out[at + 2] = (z % 256) as u8;
-    out[at + 3] = (w % 256) as u8;
-    at + 4
-}
-
 fn put_digits(out: &mut [u8], at: usize, v: usize, n: usize) -> usize
     requires { ⌜ at + n ≤ length (now out) ⌝ }
     ensures { λ r. ⌜ Wrote (now (out .entry)) at (digits n v) r (now (out .exit)) ⌝ }
 {
     let mut i = 0;
     let mut x = v;
-    while 4 <= n - i {
-        put_four(out, at + i, x);
-        x = x / 256 / 256 / 256 / 256;
-        i += 4;
-    }
     while i < n {
         out[at + i] = (x % 256) as u8;
         x = x / 256;
