@@ -1,1 +1,2 @@
 pub mod Located
+pub mod Passed

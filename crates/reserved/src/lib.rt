@@ -5,6 +5,15 @@ ghost use Rattle.state.specs.Maps.{any};
 ghost use Rattle.fields.specs.Codes.{codesOf};
 ghost use Rattle.sets.specs.Sets.{set-of};
 ghost use Rattle.reserved.specs.Located.{locatedIn};
+ghost use Rattle.reserved.specs.Passed.{Passed};
+use text::Order;
+
+// Where a search stopped: at a row, with so many rows from it on, and whether it has the id.
+struct Stop {
+    at: usize,
+    left: usize,
+    found: bool,
+}
 
 // Whether a row of the table has the id.
 pub fn located(codes: &[u8], s: &[u8], at: usize, n: usize, id: &[u8]) -> bool
@@ -15,6 +24,55 @@ pub fn located(codes: &[u8], s: &[u8], at: usize, n: usize, id: &[u8]) -> bool
         return false;
     }
     true
+}
+
+// Goes over the rows before an id, which are before all later ids too.
+fn reach(codes: &[u8], s: &[u8], at: usize, n: usize, id: &[u8]) -> Stop
+    ensures { λ r. ⌜ (r .found ≡ locatedIn (codesOf (now (codes .entry))) n (drop at (now (s .entry))) (now (id .entry))) × Passed (codesOf (now (codes .entry))) n (drop at (now (s .entry))) (now (id .entry)) (r .left) (drop (r .at) (now (s .entry))) ⌝ }
+{
+    let mut p = at;
+    let mut left = n;
+    while left != 0 {
+        let o = text::compare(id, fields::text_at(s, p));
+        match o {
+            Order::Less => {
+                return Stop {
+                    at: p,
+                    left,
+                    found: false,
+                };
+            }
+            Order::Equal => {
+                return Stop {
+                    at: p,
+                    left,
+                    found: located(codes, s, p, left, id),
+                };
+            }
+            Order::Greater => {
+                p = tables::skip_record(codes, s, p);
+            }
+        }
+        left -= 1;
+    }
+    Stop {
+        at: p,
+        left,
+        found: false,
+    }
+}
+
+// The search for an id, from where the search for the last one stopped if this one is later, else from the first row.
+fn resume(codes: &[u8], s: &[u8], at: usize, n: usize, last: &[u8], from: Stop, id: &[u8]) -> Stop
+    requires { ⌜ Passed (codesOf (now codes)) n (drop at (now s)) (now last) (from .left) (drop (from .at) (now s)) ⌝ }
+    ensures { λ r. ⌜ (r .found ≡ locatedIn (codesOf (now (codes .entry))) n (drop at (now (s .entry))) (now (id .entry))) × Passed (codesOf (now (codes .entry))) n (drop at (now (s .entry))) (now (id .entry)) (r .left) (drop (r .at) (now (s .entry))) ⌝ }
+{
+    let o = text::compare(last, id);
+    match o {
+        Order::Less => reach(codes, s, from.at, from.left, id),
+        Order::Equal => reach(codes, s, at, n, id),
+        Order::Greater => reach(codes, s, at, n, id),
+    }
 }
 
 // Whether a row of the table has a key of the set that stands at a place of the request as its id.
@@ -31,14 +89,33 @@ pub fn any_located(
     if request.len() <= set_at {
         return false;
     }
+    if n == 0 {
+        return false;
+    }
     let keys = request[set_at];
     let key = [128u8];
     let mut i = 0;
     let mut p = set_at + 1;
+    let mut last = p;
+    let mut stop = Stop {
+        at,
+        left: n,
+        found: false,
+    };
     while i < keys {
-        if located(codes, s, at, n, fields::text_at(request, p)) {
+        stop = resume(
+            codes,
+            s,
+            at,
+            n,
+            fields::text_at(request, last),
+            stop,
+            fields::text_at(request, p),
+        );
+        if stop.found {
             return true;
         }
+        last = p;
         p = tables::skip_record(&key, request, p);
         i += 1;
     }
