@@ -10,7 +10,7 @@ use mathlib.Core.Path.{_≡_, refl, sym, ap, _∙_}
 use lib.Dec.{leb, eqb}
 use lib.ListN.{length, take, drop, length-append, length-drop}
 use lib.Seq.{drop-drop}
-use borrow.Author.Tests.{le-leb, lt-leb, eq-eqb, ne-eqb}
+use borrow.Author.Tests.{leb-true, leb-false, le-leb, lt-leb, eq-eqb, ne-eqb}
 use Rattle.state.specs.Maps.{is-some}
 use Rattle.parts.specs.Answer.{longest}
 use Rattle.parts.specs.Digits.{Bytes, value}
@@ -135,6 +135,18 @@ module _ (s : List ℕ) (b : Bytes s) where
 
   pub too-long : longest < length s → is-some (decodeImage s) ≡ false
   too-long h = read-is-walked s b ∙ rw (lt-leb (length s) longest h)
+
+  -- no image is shorter than its header
+  pub long-enough : is-some (decodeImage s) ≡ true → 67 ≤ length s
+  long-enough h = go (leb 67 (length s)) refl
+    where
+      go : (t : Bool) → leb 67 (length s) ≡ t → 67 ≤ length s
+      go true k = leb-true _ _ k
+      go false k =
+          let l : length s < 67 = leb-false _ _ k in
+          let e : is-some (decodeImage s) ≡ false = verdict false (omega arith) (too-short s b l) in
+          let z : _≡_ {A = ℕ} 0 1 = cc in
+          omega arith
 
 -- FROM CALL TO CALL: an answer w after which these bodies are left, the first of them with its entry at p
 pub record Onward (s : List ℕ) (bs : List Body) (p : ℕ) (w : Walk) : Type 0 where

@@ -1,8 +1,8 @@
 // The image: opened once, then read by place.
 ghost use mathlib.Core.Path.{_≡_};
 ghost use mathlib.Core.Option.{none};
-ghost use Prim.Native.Nat.{_≤_};
-ghost use lib.ListN.{drop};
+ghost use Prim.Native.Nat.{_+_, _≤_};
+ghost use lib.ListN.{length, drop};
 ghost use lib.Dec.{leb, eqb};
 ghost use Rattle.parts.specs.Answer.{writtenOf, laidOver};
 ghost use Rattle.state.specs.Maps.{is-some};
@@ -13,7 +13,7 @@ ghost use Rattle.fields.specs.Walks.{walkOf};
 ghost use Rattle.fields.specs.Rows.{walk-rows};
 ghost use Rattle.image.specs.Layout.{encodeImage, decodeImage};
 ghost use Rattle.image.specs.Opened.{openedOf, testOf};
-ghost use Rattle.image.specs.Placed.{countAt, inPlace, tableAt, maybeNumberAt, maybeTextAt, scalarsFrom, afterWindow, scalarsAt, contentsAt};
+ghost use Rattle.image.specs.Placed.{u32At, countAt, inPlace, tableAt, maybeNumberAt, maybeTextAt, scalarsFrom, afterWindow, scalarsAt, contentsAt};
 use fields::Walk;
 use parts::Written;
 
@@ -112,18 +112,26 @@ const OVER_LIMIT: u32 = 42;
 
 const NOT_AN_IMAGE: u32 = 40;
 
+// The number of the four bytes from p on, which s has: one load.
+fn u32_in(s: &[u8], p: usize) -> usize
+    requires { ⌜ p + 4 ≤ length (now s) ⌝ }
+    ensures { λ r. ⌜ r ≡ u32At (now (s .entry)) p ⌝ }
+{
+    parts::u32_at(&s[p..p + 4], 0) as usize
+}
+
 // A body that was walked from `at` on: a fault where it is not as its entry at p says.
 fn in_place(s: &[u8], p: usize, at: usize, w: Walk) -> Walk
-    requires { ⌜ p ≤ 58 ⌝ }
+    requires { ⌜ p + 9 ≤ length (now s) ⌝ }
     ensures { λ r. ⌜ r ≡ inPlace (now (s .entry)) p at w ⌝ }
 {
     let Walk::End(e) = w else {
         return w;
     };
-    if parts::u32_at(s, p) as usize != at {
+    if u32_in(s, p) != at {
         return Walk::Fault(MALFORMED);
     }
-    if parts::u32_at(s, p + 4) as usize != parts::less(e, at) {
+    if u32_in(s, p + 4) != parts::less(e, at) {
         return Walk::Fault(MALFORMED);
     }
     w
@@ -131,10 +139,10 @@ fn in_place(s: &[u8], p: usize, at: usize, w: Walk) -> Walk
 
 // Where the one record of these codes ends that starts at `at`, whose entry stands at p; or the first fault.
 fn record_end(codes: &[u8], s: &[u8], p: usize, at: usize) -> Walk
-    requires { ⌜ p ≤ 58 ⌝ }
+    requires { ⌜ p + 9 ≤ length (now s) ⌝ }
     ensures { λ r. ⌜ r ≡ inPlace (now (s .entry)) p at (walkOf (now (s .entry)) (check (eqb (countAt (now (s .entry)) p) 1) Malformed (walk 0 (codesOf (now (codes .entry))) (drop at (now (s .entry)))))) ⌝ }
 {
-    if parts::byte_at(s, p + 8) != 1 {
+    if s[p + 8] != 1 {
         return Walk::Fault(MALFORMED);
     }
     in_place(s, p, at, fields::walk_record(codes, s, at))
@@ -142,10 +150,13 @@ fn record_end(codes: &[u8], s: &[u8], p: usize, at: usize) -> Walk
 
 // The same of a table.
 fn table_end(codes: &[u8], most: u8, s: &[u8], p: usize, at: usize) -> Walk
-    requires { ⌜ p ≤ 58 ⌝ }
+    requires { ⌜ p + 9 ≤ length (now s) ⌝ }
     ensures { λ r. ⌜ r ≡ inPlace (now (s .entry)) p at (walkOf (now (s .entry)) (check (leb (countAt (now (s .entry)) p) most) OverLimit (walk-rows (codesOf (now (codes .entry))) (countAt (now (s .entry)) p) none (drop at (now (s .entry)))))) ⌝ }
 {
-    let n = parts::byte_at(s, p + 8);
+    let n = s[p + 8];
+    if n == 0 {
+        return in_place(s, p, at, Walk::End(fields::within(s, at)));
+    }
     if most < n {
         return Walk::Fault(OVER_LIMIT);
     }
@@ -194,13 +205,13 @@ fn is_image(s: &[u8]) -> bool
 }
 
 fn table_at(s: &[u8], p: usize) -> Table
-    requires { ⌜ p ≤ 58 ⌝ }
+    requires { ⌜ p + 9 ≤ length (now s) ⌝ }
     ensures { λ r. ⌜ r ≡ tableAt (now (s .entry)) p ⌝ }
 {
     Table {
-        at: parts::u32_at(s, p) as usize,
-        size: parts::u32_at(s, p + 4) as usize,
-        count: parts::byte_at(s, p + 8) as usize,
+        at: u32_in(s, p),
+        size: u32_in(s, p + 4),
+        count: s[p + 8] as usize,
     }
 }
 
@@ -257,6 +268,7 @@ fn scalars_at(s: &[u8]) -> Scalars
 }
 
 fn contents_at(s: &[u8]) -> Contents
+    requires { ⌜ 67 ≤ length (now s) ⌝ }
     ensures { λ r. ⌜ r ≡ contentsAt (now (s .entry)) ⌝ }
 {
     Contents {

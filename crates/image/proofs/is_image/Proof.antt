@@ -141,7 +141,7 @@ slice-aggregate-table-end-5 : tie.Need-slice-aggregate-table-end-5
 slice-aggregate-table-end-5 c = search needs
 
 table-end-requires-5 : tie.Need-table-end-requires-5
-table-end-requires-5 c κs = search needs
+table-end-requires-5 c κs = omega (arith, (c .before .before .before .before .before .before .before .before .before .before .before .before .before .before .before .before .before .before .before .before .before .before .before .before .before .before .if2) .left)
 
 enum-known-leases : tie.Need-enum-known-leases
 enum-known-leases c = search needs
@@ -156,7 +156,7 @@ slice-aggregate-table-end-6 : tie.Need-slice-aggregate-table-end-6
 slice-aggregate-table-end-6 c = search needs
 
 table-end-requires-6 : tie.Need-table-end-requires-6
-table-end-requires-6 c κs = search needs
+table-end-requires-6 c κs = omega (arith, (c .before .before .before .before .before .before .before .before .before .before .before .before .before .before .before .before .before .before .before .before .before .before .before .before .before .before .before .before .before .before .before .if2) .left)
 
 enum-known-jobs : tie.Need-enum-known-jobs
 enum-known-jobs c = search needs

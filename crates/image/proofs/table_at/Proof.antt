@@ -1,44 +1,38 @@
+use native.Mathlib.Omega.{arith}
+use Prim.Native.Nat.{_+_}
 use borrow.Author.Needs.{needs}
 use Rattle.image.proofs.table_at.Statement.{statement}
 use Rattle.image.proofs.table_at.Tie as tie
 
-u32-at-requires : tie.Need-u32-at-requires
-u32-at-requires c κs = search needs
+u32-in-requires : tie.Need-u32-in-requires
+u32-in-requires c κs = search needs
 
-cast-t4 : tie.Need-cast-t4
-cast-t4 c = search needs
+add-u32-in : tie.Need-add-u32-in
+add-u32-in c = search needs
 
-add-u32-at : tie.Need-add-u32-at
-add-u32-at c = search needs
+u32-in-requires-2 : tie.Need-u32-in-requires-2
+u32-in-requires-2 c κs = search needs
 
-u32-at-requires-2 : tie.Need-u32-at-requires-2
-u32-at-requires-2 c κs = search needs
+add-t6 : tie.Need-add-t6
+add-t6 c = search needs
 
-cast-t7 : tie.Need-cast-t7
-cast-t7 c = search needs
+shared-slice-read-t8 : tie.Need-shared-slice-read-t8
+shared-slice-read-t8 c = search needs
 
-add-byte-at : tie.Need-add-byte-at
-add-byte-at c = search needs
-
-byte-at-requires : tie.Need-byte-at-requires
-byte-at-requires c κs = search needs
-
-cast-t10 : tie.Need-cast-t10
-cast-t10 c = search needs
+cast-t9 : tie.Need-cast-t9
+cast-t9 c = omega (arith, (c .shared-slice-known2) .given ((c .before .before .before .before .args) .p + 8))
 
 returns : tie.Need-returns
-returns c = simp (c .byte-at .ensures, c .before .u32-at2 .ensures, c .before .before .u32-at .ensures)
+returns c = simp (c .before .u32-in2 .ensures, c .before .before .u32-in .ensures)
 
 pub table-at-spec : {M : Type 1} → statement M
 table-at-spec =
     tie.close
     (tie.spec
-    u32-at-requires
-    cast-t4
-    add-u32-at
-    u32-at-requires-2
-    cast-t7
-    add-byte-at
-    byte-at-requires
-    cast-t10
+    u32-in-requires
+    add-u32-in
+    u32-in-requires-2
+    add-t6
+    shared-slice-read-t8
+    cast-t9
     returns)
