@@ -3,15 +3,15 @@ use Prim.Native.Nat.{ℕ, _+_, _-_, _≤_}
 use native.Mathlib.Omega.{arith}
 use mathlib.Core.Bool.{Bool, true, false, cond}
 use mathlib.Core.List.{List, [], _∷_, _++_}
-use mathlib.Core.Path.{_≡_, refl, ap, _∙_}
+use mathlib.Core.Path.{_≡_, refl, ap, _∙_, subst}
 use lib.ListN.{length, drop}
-use Rattle.parts.specs.Gather.{run, gatherOf, setPart}
+use Rattle.parts.specs.Gather.{run, gatherOf, Filled, setPart}
 use Rattle.fields.specs.Codes.{codes, skip, codesOf}
 use Rattle.fields.specs.Walks.{placeOf}
 use Rattle.tables.specs.Seek.{rows-at}
 use Rattle.image.specs.Shapes.{lease}
 use Rattle.next.specs.Due.{due}
-use Rattle.next.specs.Added.{Added, zeros, one-long, one-gathers, more-gathers}
+use Rattle.next.specs.Added.{Added, zeros, one-long, one-gathers, more-filled, more-gathers}
 use Rattle.clock.specs.Due.{rowOf, keptBytes, row-size}
 
 -- ---- a part for each row
@@ -45,12 +45,18 @@ pub record BodyIs (tick : ℕ) (s : List ℕ) (first at n after : ℕ) (ps : Lis
 module _ (tick : ℕ) (s : List ℕ) (first at n after size : ℕ) (a b c : List ℕ) (h : n ≤ 64) (z : size ≡ at - first) (ea : a ≡ setPart (zeros 198) 0 0 first size)
     (ab : Added (keptBytes tick) 1 s at n a b) (ec : c ≡ setPart b (n + 1) 0 after (length s))
   where
+    long : length b ≡ 198
+    long = ab .long ∙ one-long 198 0 first size a ea (omega arith)
+
     pub body-is : BodyIs tick s first at n after c
-    body-is =
-        let long : length b ≡ 198 = ab .long ∙ one-long 198 0 first size a ea (omega arith) in
-        record {
-          gathers = λ q.
-              more-gathers (n + 1) 0 after (length s) b c (ab .filled) (omega arith) ec s q
-              ∙ ap (λ (l : List ℕ). l ++ run s after (length s))
-              (ab .gathers q ∙ ap (λ (l : List ℕ). l ++ keptBytes tick (rows-at (codes lease) n (drop at s))) (one-gathers 198 0 first size a ea (omega arith) s q ∙ ap (run s first) z));
-        }
+    body-is = record {
+      gathers = λ q.
+          more-gathers (n + 1) 0 after (length s) b c (ab .filled) (omega (arith, long)) ec s q
+          ∙ ap (λ (l : List ℕ). l ++ run s after (length s))
+          (ab .gathers q ∙ ap (λ (l : List ℕ). l ++ keptBytes tick (rows-at (codes lease) n (drop at s))) (one-gathers 198 0 first size a ea (omega arith) s q ∙ ap (run s first) z));
+    }
+
+    pub body-filled : Filled (n + 2) c
+    body-filled =
+        let y : n + 1 + 1 ≡ n + 2 = omega arith in
+        subst (λ (m : ℕ). Filled m c) y (more-filled (n + 1) 0 after (length s) b c (ab .filled) (omega (arith, long)) ec)

@@ -106,6 +106,7 @@ fn stays(parts: &mut [usize], s: &[u8], at: usize, n: usize, tick: u64)
 fn body_parts(s: &[u8], first: usize, at: usize, n: usize, tick: u64, after: usize) -> [usize; 198]
     requires { ⌜ n ≤ 64 ⌝ }
     ensures { λ r. ⌜ BodyIs tick (now (s .entry)) first at n after r ⌝ }
+    ensures filled { λ r. ⌜ Filled (n + 2) r ⌝ }
 {
     let mut parts = [0usize; 198];
     parts::set_part(&mut parts, 0, 0, first, parts::less(at, first));
@@ -186,5 +187,6 @@ pub fn advance_lease_clock(
         tick: a.next_tick,
         ended: t.ended,
     });
-    next::emit(0, c2, image, request, &body, told, next, outcome)
+    let used = 3 * (leases.count + 2);
+    next::emit(0, c2, image, request, &body[0..used], told, next, outcome)
 }

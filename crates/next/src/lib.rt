@@ -456,6 +456,7 @@ fn ends(parts: &mut [usize], s: &[u8], at: usize, n: usize, tick: u64)
 fn expired_parts(s: &[u8], o: LeasesExpired) -> [usize; 198]
     requires { ⌜ o .count ≤ 64 ⌝ }
     ensures { λ r. ⌜ ExpiredAs (now (s .entry)) o r ⌝ }
+    ensures filled { λ r. ⌜ Filled (o .count + 2) r ⌝ }
 {
     let mut parts = [0usize; 198];
     parts::set_part(&mut parts, 0, 2, 4, 1);
@@ -500,7 +501,17 @@ pub fn emit(
         }
         PublicationOutcome::LeasesExpired(leases) => {
             let told = expired_parts(image, leases);
-            parts::emit(over, image, request, &h, body, &told, next, outcome)
+            let used = 3 * (leases.count + 2);
+            parts::emit(
+                over,
+                image,
+                request,
+                &h,
+                body,
+                &told[0..used],
+                next,
+                outcome,
+            )
         }
         PublicationOutcome::CollectionPrepared(token) => {
             let told = prepared_parts(token);

@@ -1,3 +1,8 @@
+use Prim.Native.Nat.{_+_, _-_, _*_}
+use lib.ListN.{take, drop}
+use native.Mathlib.Omega.{arith}
+use mathlib.Core.Path.{_∙_}
+use Rattle.next.specs.Added.{front-gathers}
 use Rattle.machine.specs.Actions.{LeasesExpired}
 use Rattle.machine.specs.Next.{expired, clock-advanced}
 use Rattle.next.specs.Call.{refused, done}
@@ -43,11 +48,23 @@ with-leases-requires c κs = search needs
 body-parts-requires : tie.Need-body-parts-requires
 body-parts-requires c κs = count-low (c .before .before .before .before .before .before .before .before .before .before .before .before .before .before .before .before .before .before .pre)
 
-slice-aggregate-emit : tie.Need-slice-aggregate-emit
-slice-aggregate-emit c = search needs
+add-used : tie.Need-add-used
+add-used c = omega (arith, count-low (c .before .before .before .before .before .before .before .before .before .before .before .before .before .before .before .before .before .before .before .before .pre))
+
+mul-used : tie.Need-mul-used
+mul-used c = omega (arith, count-low (c .before .before .before .before .before .before .before .before .before .before .before .before .before .before .before .before .before .before .before .before .pre))
+
+sub-emit : tie.Need-sub-emit
+sub-emit c = search needs
+
+part-emit-start : tie.Need-part-emit-start
+part-emit-start c = search needs
+
+part-emit-end : tie.Need-part-emit-end
+part-emit-end c = omega (arith, count-low (c .before .before .before .before .before .before .before .before .before .before .before .before .before .before .before .before .before .before .before .before .before .pre))
 
 emit-requires : tie.Need-emit-requires
-emit-requires c κs = (advance-small (c .before .before .before .before .before .before .before .before .before .before .before .before .before .before .before .before .before .before .before .before .before .before .pre) ((c .before .before .before .before .before .before .before .before .before .before .policy-for) .result) ((c .before .before .before .before .before .before .before .before .before .count-rows) .ensures) ((c .before .before .before .before .with-leases) .ensures), count-low (c .before .before .before .before .before .before .before .before .before .before .before .before .before .before .before .before .before .before .before .before .before .before .pre))
+emit-requires c κs = (advance-small (c .before .before .before .before .before .before .before .before .before .before .before .before .before .before .before .before .before .before .before .before .before .before .before .before .pre) ((c .before .before .before .before .before .before .before .before .before .before .before .before .policy-for) .result) ((c .before .before .before .before .before .before .before .before .before .before .before .count-rows) .ensures) ((c .before .before .before .before .before .before .with-leases) .ensures), count-low (c .before .before .before .before .before .before .before .before .before .before .before .before .before .before .before .before .before .before .before .before .before .before .before .before .pre))
 
 same-length : tie.Need-same-length
 same-length c = search needs
@@ -56,12 +73,12 @@ same-length-2 : tie.Need-same-length-2
 same-length-2 c = search needs
 
 returns-3 : tie.Need-returns-3
-returns-3 c = done (c .before .before .before .before .before .before .before .before .before .before .before .before .before .before .before .before .before .before .before .before .before .before .before .before .before .before .before .pre) (clock-advanced ((c .before .before .before .before .before .before .before .before .before .before .before .before .before .before .before .before .before .before .before .before .before .before .before .before .before .before .before .pre) .state) ((c .before .before .before .before .before .before .before .before .before .before .before .before .before .before .before .before .before .before .before .before .before .before .before .before .before .before .before .args) .a .«next_tick») ((c .before .before .before .before .before .before .before .before .before .before .before .before .before .before .before .before .before .before .before .before .before .before .before .before .before .before .before .args) .f .«omit_lease_root_epoch»)) (LeasesExpired (expired ((c .before .before .before .before .before .before .before .before .before .before .before .before .before .before .before .before .before .before .before .before .before .before .before .before .before .before .before .pre) .state) ((c .before .before .before .before .before .before .before .before .before .before .before .before .before .before .before .before .before .before .before .before .before .before .before .before .before .before .before .args) .a .«next_tick»))) 0 ((c .before .before .before .before .before .before .before .before .before .with-leases) .result)
-    ((c .before .before .before .before .before .before .before .before .body-parts) .result) (PublicationOutcome.LeasesExpired (expiredAt ((c .before .before .before .before .before .before .before .before .before .before .before .before .before .before .before .before .before .before .before .before .before .before .before .before .before .before .before .args) .c) ((c .before .before .before .before .before .before .before .before .before .before .before .before .before .before .before .before .before .before .before .before .before .before .before .before .before .before .before .args) .a .«next_tick») ((c .before .before .before .before .before .before .before .before .before .before .before .before .before .before .count-rows) .result .ended)))
-    (onward (c .before .before .before .before .before .before .before .before .before .before .before .before .before .before .before .before .before .before .before .before .before .before .before .before .before .before .before .pre) ((c .before .before .before .before .before .before .before .before .before .before .before .before .before .before .before .before .before .before .if1) .left) ((c .before .before .before .before .before .before .before .before .before .before .before .before .before .before .before .before .if2) .left))
-    (advance-shows (c .before .before .before .before .before .before .before .before .before .before .before .before .before .before .before .before .before .before .before .before .before .before .before .before .before .before .before .pre) _ _ _ _ _ _ ((c .before .before .before .before .before .before .before .before .before .before .before .before .before .before .before .policy-for) .ensures) ((c .before .before .before .before .before .before .before .before .before .before .before .before .before .before .count-rows) .ensures) ((c .before .before .before .before .before .before .before .before .before .before .before .before .before .up-if) .ensures) ((c .before .before .before .before .before .before .before .before .before .before .before .before .root-after) .ensures) ((c .before .before .before .before .before .before .before .before .before .before .before .readable-for) .ensures) ((c .before .before .before .before .before .before .before .before .before .before .less) .ensures) _ ((c .before .before .before .before .before .before .before .before .before .with-leases) .ensures))
-    (advance-tables (c .before .before .before .before .before .before .before .before .before .before .before .before .before .before .before .before .before .before .before .before .before .before .before .before .before .before .before .pre) ((c .before .before .before .before .before .before .before .before .body-parts) .ensures))
-    (advance-told (c .before .before .before .before .before .before .before .before .before .before .before .before .before .before .before .before .before .before .before .before .before .before .before .before .before .before .before .pre) ((c .before .before .before .before .before .before .before .before .before .before .before .before .before .before .before .policy-for) .result) ((c .before .before .before .before .before .before .before .before .before .before .before .before .before .before .count-rows) .ensures))
+returns-3 c = done (c .before .before .before .before .before .before .before .before .before .before .before .before .before .before .before .before .before .before .before .before .before .before .before .before .before .before .before .before .before .pre) (clock-advanced ((c .before .before .before .before .before .before .before .before .before .before .before .before .before .before .before .before .before .before .before .before .before .before .before .before .before .before .before .before .before .pre) .state) ((c .before .before .before .before .before .before .before .before .before .before .before .before .before .before .before .before .before .before .before .before .before .before .before .before .before .before .before .before .before .args) .a .«next_tick») ((c .before .before .before .before .before .before .before .before .before .before .before .before .before .before .before .before .before .before .before .before .before .before .before .before .before .before .before .before .before .args) .f .«omit_lease_root_epoch»)) (LeasesExpired (expired ((c .before .before .before .before .before .before .before .before .before .before .before .before .before .before .before .before .before .before .before .before .before .before .before .before .before .before .before .before .before .pre) .state) ((c .before .before .before .before .before .before .before .before .before .before .before .before .before .before .before .before .before .before .before .before .before .before .before .before .before .before .before .before .before .args) .a .«next_tick»))) 0 ((c .before .before .before .before .before .before .before .before .before .before .before .with-leases) .result)
+    (take (3 * (((c .before .before .before .before .before .before .before .before .before .before .before .before .before .before .before .before .before .before .before .before .before .before .before .before .before .before .before .before .before .args) .c .leases .count) + 2) - 0) (drop 0 ((c .before .before .before .before .before .before .before .before .before .before .body-parts) .result))) (PublicationOutcome.LeasesExpired (expiredAt ((c .before .before .before .before .before .before .before .before .before .before .before .before .before .before .before .before .before .before .before .before .before .before .before .before .before .before .before .before .before .args) .c) ((c .before .before .before .before .before .before .before .before .before .before .before .before .before .before .before .before .before .before .before .before .before .before .before .before .before .before .before .before .before .args) .a .«next_tick») ((c .before .before .before .before .before .before .before .before .before .before .before .before .before .before .before .before .count-rows) .result .ended)))
+    (onward (c .before .before .before .before .before .before .before .before .before .before .before .before .before .before .before .before .before .before .before .before .before .before .before .before .before .before .before .before .before .pre) ((c .before .before .before .before .before .before .before .before .before .before .before .before .before .before .before .before .before .before .before .before .if1) .left) ((c .before .before .before .before .before .before .before .before .before .before .before .before .before .before .before .before .before .before .if2) .left))
+    (advance-shows (c .before .before .before .before .before .before .before .before .before .before .before .before .before .before .before .before .before .before .before .before .before .before .before .before .before .before .before .before .before .pre) _ _ _ _ _ _ ((c .before .before .before .before .before .before .before .before .before .before .before .before .before .before .before .before .before .policy-for) .ensures) ((c .before .before .before .before .before .before .before .before .before .before .before .before .before .before .before .before .count-rows) .ensures) ((c .before .before .before .before .before .before .before .before .before .before .before .before .before .before .before .up-if) .ensures) ((c .before .before .before .before .before .before .before .before .before .before .before .before .before .before .root-after) .ensures) ((c .before .before .before .before .before .before .before .before .before .before .before .before .before .readable-for) .ensures) ((c .before .before .before .before .before .before .before .before .before .before .before .before .less) .ensures) _ ((c .before .before .before .before .before .before .before .before .before .before .before .with-leases) .ensures))
+    (front-gathers ((c .before .before .before .before .before .before .before .before .before .before .before .before .before .before .before .before .before .before .before .before .before .before .before .before .before .before .before .before .before .args) .image .now) ((c .before .before .before .before .before .before .before .before .before .before .before .before .before .before .before .before .before .before .before .before .before .before .before .before .before .before .before .before .before .args) .request .now) _ _ ((c .before .before .before .before .before .before .before .before .before .before .body-parts) .ensures .1) ∙ advance-tables (c .before .before .before .before .before .before .before .before .before .before .before .before .before .before .before .before .before .before .before .before .before .before .before .before .before .before .before .before .before .pre) ((c .before .before .before .before .before .before .before .before .before .before .body-parts) .ensures .0))
+    (advance-told (c .before .before .before .before .before .before .before .before .before .before .before .before .before .before .before .before .before .before .before .before .before .before .before .before .before .before .before .before .before .pre) ((c .before .before .before .before .before .before .before .before .before .before .before .before .before .before .before .before .before .policy-for) .result) ((c .before .before .before .before .before .before .before .before .before .before .before .before .before .before .before .before .count-rows) .ensures))
     ((c .before .before .before .before .emit) .ensures)
 
 pub advance-lease-clock-spec : {M : Type 1} → statement M
@@ -80,7 +97,11 @@ advance-lease-clock-spec =
     less-requires
     with-leases-requires
     body-parts-requires
-    slice-aggregate-emit
+    add-used
+    mul-used
+    sub-emit
+    part-emit-start
+    part-emit-end
     emit-requires
     same-length
     same-length-2

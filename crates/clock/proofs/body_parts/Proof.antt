@@ -1,6 +1,6 @@
 use native.Mathlib.Omega.{arith}
 use Rattle.next.specs.Added.{one-long, one-filled}
-use Rattle.clock.specs.Parts.{body-is}
+use Rattle.clock.specs.Parts.{body-is, body-filled}
 use borrow.Author.Needs.{needs}
 use Rattle.clock.proofs.body_parts.Statement.{statement}
 use Rattle.clock.proofs.body_parts.Tie as tie
@@ -30,7 +30,7 @@ set-part-requires-2 : tie.Need-set-part-requires-2
 set-part-requires-2 c κs = search needs
 
 returns : tie.Need-returns
-returns c = body-is ((c .before .before .before .before .before .before .before .before .before .before .before .args) .tick) ((c .before .before .before .before .before .before .before .before .before .before .before .args) .s .now) ((c .before .before .before .before .before .before .before .before .before .before .before .args) .first) ((c .before .before .before .before .before .before .before .before .before .before .before .args) .at) ((c .before .before .before .before .before .before .before .before .before .before .before .args) .n) ((c .before .before .before .before .before .before .before .before .before .before .before .args) .after) _ _ _ _ (c .before .before .before .before .before .before .before .before .before .before .before .pre) ((c .before .before .before .before .before .before .before .before .less) .ensures) ((c .before .before .before .before .before .before .before .set-part) .ensures) ((c .before .before .before .before .stays) .ensures) ((c .before .set-part2) .ensures)
+returns c = (body-is ((c .before .before .before .before .before .before .before .before .before .before .before .args) .tick) ((c .before .before .before .before .before .before .before .before .before .before .before .args) .s .now) ((c .before .before .before .before .before .before .before .before .before .before .before .args) .first) ((c .before .before .before .before .before .before .before .before .before .before .before .args) .at) ((c .before .before .before .before .before .before .before .before .before .before .before .args) .n) ((c .before .before .before .before .before .before .before .before .before .before .before .args) .after) _ _ _ _ (c .before .before .before .before .before .before .before .before .before .before .before .pre) ((c .before .before .before .before .before .before .before .before .less) .ensures) ((c .before .before .before .before .before .before .before .set-part) .ensures) ((c .before .before .before .before .stays) .ensures) ((c .before .set-part2) .ensures), body-filled ((c .before .before .before .before .before .before .before .before .before .before .before .args) .tick) ((c .before .before .before .before .before .before .before .before .before .before .before .args) .s .now) ((c .before .before .before .before .before .before .before .before .before .before .before .args) .first) ((c .before .before .before .before .before .before .before .before .before .before .before .args) .at) ((c .before .before .before .before .before .before .before .before .before .before .before .args) .n) ((c .before .before .before .before .before .before .before .before .before .before .before .args) .after) _ _ _ _ (c .before .before .before .before .before .before .before .before .before .before .before .pre) ((c .before .before .before .before .before .before .before .before .less) .ensures) ((c .before .before .before .before .before .before .before .set-part) .ensures) ((c .before .before .before .before .stays) .ensures) ((c .before .set-part2) .ensures))
 
 pub body-parts-spec : {M : Type 1} → statement M
 body-parts-spec =

@@ -1,3 +1,5 @@
+use native.Mathlib.Omega.{arith}
+use Rattle.next.specs.Added.{front-gathers}
 use mathlib.Core.Path.{ap, sym, _∙_, subst}
 use Rattle.parts.specs.Gather.{gatherOf}
 use Rattle.next.specs.Emit.{emitted}
@@ -75,11 +77,23 @@ enum-known-o-4 c = search needs
 expired-parts-requires : tie.Need-expired-parts-requires
 expired-parts-requires c κs = subst Fits ((c .before .o4) .given .1) ((c .before .before .before .before .before .before .before .before .before .before .pre) .1)
 
+add-used : tie.Need-add-used
+add-used c = omega (arith, subst Fits ((c .before .before .before .o4) .given .1) ((c .before .before .before .before .before .before .before .before .before .before .before .before .pre) .1))
+
+mul-used : tie.Need-mul-used
+mul-used c = omega (arith, subst Fits ((c .before .before .before .o4) .given .1) ((c .before .before .before .before .before .before .before .before .before .before .before .before .pre) .1))
+
 slice-aggregate-emit-9 : tie.Need-slice-aggregate-emit-9
 slice-aggregate-emit-9 c = search needs
 
-slice-aggregate-emit-10 : tie.Need-slice-aggregate-emit-10
-slice-aggregate-emit-10 c = search needs
+sub-emit : tie.Need-sub-emit
+sub-emit c = search needs
+
+part-emit-start : tie.Need-part-emit-start
+part-emit-start c = search needs
+
+part-emit-end : tie.Need-part-emit-end
+part-emit-end c = omega (arith, subst Fits ((c .before .before .before .before .before .o4) .given .1) ((c .before .before .before .before .before .before .before .before .before .before .before .before .before .before .pre) .1))
 
 emit-requires-5 : tie.Need-emit-requires-5
 emit-requires-5 c κs = search needs
@@ -90,11 +104,11 @@ enum-known-o-5 c = search needs
 prepared-parts-requires : tie.Need-prepared-parts-requires
 prepared-parts-requires c κs = search needs
 
+slice-aggregate-emit-10 : tie.Need-slice-aggregate-emit-10
+slice-aggregate-emit-10 c = search needs
+
 slice-aggregate-emit-11 : tie.Need-slice-aggregate-emit-11
 slice-aggregate-emit-11 c = search needs
-
-slice-aggregate-emit-12 : tie.Need-slice-aggregate-emit-12
-slice-aggregate-emit-12 c = search needs
 
 emit-requires-6 : tie.Need-emit-requires-6
 emit-requires-6 c κs = search needs
@@ -102,11 +116,11 @@ emit-requires-6 c κs = search needs
 enum-known-o-6 : tie.Need-enum-known-o-6
 enum-known-o-6 c = search needs
 
+slice-aggregate-emit-12 : tie.Need-slice-aggregate-emit-12
+slice-aggregate-emit-12 c = search needs
+
 slice-aggregate-emit-13 : tie.Need-slice-aggregate-emit-13
 slice-aggregate-emit-13 c = search needs
-
-slice-aggregate-emit-14 : tie.Need-slice-aggregate-emit-14
-slice-aggregate-emit-14 c = search needs
 
 emit-requires-7 : tie.Need-emit-requires-7
 emit-requires-7 c κs = search needs
@@ -154,7 +168,7 @@ same-length-10 : tie.Need-same-length-10
 same-length-10 c = search needs
 
 returns-5 : tie.Need-returns-5
-returns-5 c = emitted ((c .before .before .before .before .before .before .before .before .before .before .before .before .before .before .before .before .before .before .before .before .args) .image .now) ((c .before .before .before .before .before .before .before .before .before .before .before .before .before .before .before .before .before .before .before .before .args) .request .now) ((c .before .before .before .before .before .before .before .before .before .before .before .before .before .before .before .before .before .before .before .before .args) .body .now) _ _ _ _ _ _ _ _ _ _ _ ((c .before .before .before .before .before .before .before .before .before .before .before .before .before .over-limit) .ensures) ((c .before .before .before .before .before .before .before .before .before .before .before .before .before .before .head) .ensures) ((c .before .before .before .before .before .before .before .before .before .expired-parts) .ensures .gathers ((c .before .before .before .before .before .before .before .before .before .before .before .before .before .before .before .before .before .before .before .before .args) .request .now) ∙ ap (outcomeBytes ((c .before .before .before .before .before .before .before .before .before .before .before .before .before .before .before .before .before .before .before .before .args) .image .now) ((c .before .before .before .before .before .before .before .before .before .before .before .before .before .before .before .before .before .before .before .before .args) .request .now)) (sym ((c .before .before .before .before .before .before .before .before .before .before .before .o4) .given .1))) ((c .before .before .before .before .emit5) .ensures)
+returns-5 c = emitted ((c .before .before .before .before .before .before .before .before .before .before .before .before .before .before .before .before .before .before .before .before .before .before .args) .image .now) ((c .before .before .before .before .before .before .before .before .before .before .before .before .before .before .before .before .before .before .before .before .before .before .args) .request .now) ((c .before .before .before .before .before .before .before .before .before .before .before .before .before .before .before .before .before .before .before .before .before .before .args) .body .now) _ _ _ _ _ _ _ _ _ _ _ ((c .before .before .before .before .before .before .before .before .before .before .before .before .before .before .before .over-limit) .ensures) ((c .before .before .before .before .before .before .before .before .before .before .before .before .before .before .before .before .head) .ensures) (front-gathers ((c .before .before .before .before .before .before .before .before .before .before .before .before .before .before .before .before .before .before .before .before .before .before .args) .image .now) ((c .before .before .before .before .before .before .before .before .before .before .before .before .before .before .before .before .before .before .before .before .before .before .args) .request .now) _ _ ((c .before .before .before .before .before .before .before .before .before .before .before .expired-parts) .ensures .1) ∙ (c .before .before .before .before .before .before .before .before .before .before .before .expired-parts) .ensures .0 .gathers ((c .before .before .before .before .before .before .before .before .before .before .before .before .before .before .before .before .before .before .before .before .before .before .args) .request .now) ∙ ap (outcomeBytes ((c .before .before .before .before .before .before .before .before .before .before .before .before .before .before .before .before .before .before .before .before .before .before .args) .image .now) ((c .before .before .before .before .before .before .before .before .before .before .before .before .before .before .before .before .before .before .before .before .before .before .args) .request .now)) (sym ((c .before .before .before .before .before .before .before .before .before .before .before .before .before .o4) .given .1))) ((c .before .before .before .before .emit5) .ensures)
 
 same-length-11 : tie.Need-same-length-11
 same-length-11 c = search needs
@@ -201,17 +215,21 @@ emit-spec =
     emit-requires-4
     enum-known-o-4
     expired-parts-requires
+    add-used
+    mul-used
     slice-aggregate-emit-9
-    slice-aggregate-emit-10
+    sub-emit
+    part-emit-start
+    part-emit-end
     emit-requires-5
     enum-known-o-5
     prepared-parts-requires
+    slice-aggregate-emit-10
     slice-aggregate-emit-11
-    slice-aggregate-emit-12
     emit-requires-6
     enum-known-o-6
+    slice-aggregate-emit-12
     slice-aggregate-emit-13
-    slice-aggregate-emit-14
     emit-requires-7
     same-length
     same-length-2
