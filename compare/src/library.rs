@@ -1,6 +1,7 @@
 //! The four functions of include/okv.h, called with slices that lie between bytes which must not change.
 use crate::oracle::Answer;
 
+#[link(name = "okv", kind = "static")]
 extern "C" {
     fn okv_default(image: *mut u8, room: usize, length: *mut usize) -> u32;
     fn okv_test(image: *const u8, size: usize) -> u32;
