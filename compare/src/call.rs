@@ -2,6 +2,10 @@
 use crate::oracle::{self, Answer};
 use crate::{decode, encode, library, okvstep, shrink};
 use std::fmt;
+use std::time::{Duration, Instant};
+
+/// How long less input is looked for.
+const SEARCH: Duration = Duration::from_secs(20);
 
 /// What was called, with all that it was given.
 pub enum Call {
@@ -37,9 +41,10 @@ impl Call {
         }
     }
 
-    /// Less input with which the two sides still differ.
+    /// Less input with which the two sides still differ, as far as that is found in time.
     pub fn smallest(self) -> Self {
-        let differs = |call: &Call| call.difference().is_some();
+        let start = Instant::now();
+        let differs = |call: &Call| start.elapsed() < SEARCH && call.difference().is_some();
         match self {
             Call::Apply { image, request, room, outcome_room } => {
                 let call = |image: &[u8], request: &[u8]| Call::Apply {
@@ -88,14 +93,14 @@ fn smaller_image(image: Vec<u8>, differs: impl Fn(&[u8]) -> bool) -> Vec<u8> {
     smaller(image, |bytes| decode::image(bytes).ok(), |state| encode::image(state).bytes, differs)
 }
 
-/// As a value where the bytes are one, and else as bytes.
+/// As a value where the bytes are one that differs too, and else as bytes.
 fn smaller<T: serde::Serialize + serde::de::DeserializeOwned>(
     bytes: Vec<u8>,
     read: impl Fn(&[u8]) -> Option<T>,
     write: impl Fn(&T) -> Vec<u8>,
     differs: impl Fn(&[u8]) -> bool,
 ) -> Vec<u8> {
-    match read(&bytes) {
+    match read(&bytes).filter(|value| differs(&write(value))) {
         Some(value) => write(&shrink::value(value, |value| differs(&write(value)))),
         None => shrink::bytes(bytes, |bytes| differs(bytes)),
     }

@@ -123,6 +123,13 @@ fn built(held: &mut Held, g: &mut Gen, states: usize, crowded: bool) {
 
 /// Each action that can make a table longer, on one that is full and on one that is one short of it.
 fn tables(held: &mut Held, g: &mut Gen) {
+    for table in 0..TABLES.len() {
+        for fill in [Fill::OneShort, Fill::Full, Fill::Over] {
+            held.step += 1;
+            let state = g.filled(table, fill);
+            held.test(&encode::image(&state).bytes);
+        }
+    }
     for action in 1..=ACTIONS {
         let Some(table) = grown_by(action) else { continue };
         // a collection that makes a new root needs a job on a root that is not there, and a flag

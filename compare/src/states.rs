@@ -12,6 +12,8 @@ pub enum Fill {
     Few,
     OneShort,
     Full,
+    /// One past the limit: no image.
+    Over,
 }
 
 impl Gen {
@@ -40,6 +42,7 @@ impl Gen {
                 Fill::Few => self.rng.index(4),
                 Fill::OneShort => *size - 1,
                 Fill::Full => *size,
+                Fill::Over => *size + 1,
             };
         }
         let [intents, roots, pins, reservations, leases, jobs] = sizes;
@@ -76,23 +79,29 @@ impl Gen {
 
     fn scalars(&mut self) -> PublicationAuthorityState {
         let readable = self.number();
-        let frontier = self.from(readable, 5);
-        let collected = self.rng.below(3);
         PublicationAuthorityState {
             format_version: if self.odd() { self.number() as u32 } else { 1 },
             revision: self.position(),
             root_intent_epoch: self.number(),
-            observed_commit_frontier: frontier,
+            observed_commit_frontier: self.related(readable, 5),
             retention_window: if self.odd() { None } else { Some(self.number()) },
             retention_policy_epoch: self.number(),
-            policy_floor: self.near(readable),
+            policy_floor: self.related(readable, 1),
             minimum_readable_version: readable,
-            physically_collected_through: self.near(collected),
+            physically_collected_through: self.related(0, 3),
             lease_clock_tick: self.number(),
             lease_epoch: self.number(),
             range_map_epoch: self.number(),
             ..PublicationAuthorityState::default()
         }
+    }
+
+    /// Mostly from this number up to so many more.
+    fn related(&mut self, n: u64, more: u64) -> u64 {
+        if self.rng.one_in(6) {
+            return self.number();
+        }
+        self.from(n, more)
     }
 
     /// None, a root, or an id that is no root.
@@ -108,7 +117,7 @@ impl Gen {
         self.known(&s.roots, Self::id)
     }
 
-    /// An id of the table, or mostly another one where the table is empty.
+    /// An id of the table, or another one where there is none and where it is not to fit.
     pub fn known<T>(&mut self, table: &BTreeMap<String, T>, other: impl Fn(&mut Self) -> String) -> String {
         if table.is_empty() || self.odd() {
             return other(self);
@@ -128,16 +137,13 @@ impl Gen {
         }
     }
 
-    /// What is stored, or mostly that.
+    /// What is stored, or something else where it is not to fit.
     pub fn prior(&mut self, stored: Option<&ObjectReference>) -> Option<ObjectReference> {
         if !self.odd() {
             return stored.cloned();
         }
-        if self.rng.one_in(2) {
-            None
-        } else {
-            Some(self.reference())
-        }
+        let other = self.reference();
+        self.rng.pick(&[None, Some(other)])
     }
 
     fn prepared(&mut self, s: &PublicationAuthorityState) -> (String, PreparedPublication) {
@@ -160,7 +166,7 @@ impl Gen {
             lease_epoch: self.number(),
             owner: self.id(),
             purpose: self.id(),
-            deadline_tick: self.from(s.lease_clock_tick, 6),
+            deadline_tick: self.from(s.lease_clock_tick.saturating_sub(2), 8),
             closure: self.closure(),
             owner_generation: self.generation(),
             authority_position: self.position(),
