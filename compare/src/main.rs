@@ -1,6 +1,7 @@
 //! Holds libokv.a and okvstep to the Rust:
 //!
-//! - `compare`: at least 300,000 calls on fixed seeds; `compare SEED CALLS`: so many from this seed on;
+//! - `compare`: at least 300,000 calls on fixed seeds; `compare SEED CALLS`: so many from this seed on, where few calls do
+//!   not reach all that must come;
 //! - `compare lines FILE`: the lines that okvstep must print for these frames, as the Rust answers them;
 //! - `compare sample FOLDER`: the data file of calls and the Rust's answers for the program `replay`.
 mod actions;
