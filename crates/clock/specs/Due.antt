@@ -5,7 +5,7 @@ use mathlib.Core.Bool.{Bool, cond}
 use mathlib.Core.List.{List, [], _∷_, _++_, append-assoc}
 use mathlib.Core.Path.{_≡_, refl, sym, ap, _∙_}
 use lib.Dec.{leb}
-use lib.ListN.{length, take, drop, length-append, length-drop, length-take}
+use lib.ListN.{length, take, drop, length-drop, length-take}
 use lib.Seq.{take-append-seam}
 use Rattle.state.specs.Maps.{Text, Map, Every, _⟼_, key-of, keys-where}
 use Rattle.state.specs.MapLaws.{Each, by-test}
@@ -22,8 +22,10 @@ use Rattle.machine.specs.Formed.{LeaseAt}
 use Rattle.machine.specs.Next.{oldest}
 use Rattle.entries.specs.Sized.{image-texts}
 use Rattle.next.specs.Due.{due, idOf, endedIds, next-is, rest-low}
-use Rattle.leases.specs.Rows.{version-row, deadline-row}
+use Rattle.leases.specs.Rows.{deadline-row}
 use Rattle.leases.specs.Oldest.{oldestKept}
+use Rattle.image.specs.Stored.{front}
+use Rattle.floor.specs.Oldest.{version-row}
 
 -- the bytes of the row at the head
 abbrev pub rowOf : List ℕ → List ℕ
@@ -54,9 +56,6 @@ module _ (s : List ℕ) (p q : ℕ) (e : q ≡ placeOf s (skip 0 (codesOf (64 �
 module _ (tick : ℕ) where
   abbrev pub ends-by : SnapshotLeaseToken → Bool
   ends-by t = leb (t .deadline-tick) tick
-
-  front : (a b : List ℕ) → take (length (a ++ b) - length b) (a ++ b) ≡ a
-  front a b = let z : length (a ++ b) - length b ≡ length a = omega (arith, length-append a b) in ap (λ (n : ℕ). take n (a ++ b)) z ∙ take-append-seam a b
 
   module _ (j : Text) (t : SnapshotLeaseToken) (l : List ℕ) (h : LeaseAt image-texts j t) (o : Hopped (codes lease) lease-row key-of (j ⟼ t)) where
     due-is : due tick (lease-row (j ⟼ t) ++ l) ≡ ends-by t

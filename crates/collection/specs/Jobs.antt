@@ -23,11 +23,12 @@ use Rattle.image.specs.Opened.{contentsOf}
 use Rattle.image.specs.Stored.{jobs-stored}
 use Rattle.image.specs.declared.Contents.{Contents}
 use Rattle.next.specs.Kept.{tables-here, length-here, before-jobs, jobs-seam}
-use Rattle.next.specs.Edit.{job-codes, run-row, none-there, some-there}
+use Rattle.next.specs.Edit.{run-row, none-there, some-there}
 use Rattle.next.specs.Shows.{Shown}
 use Rattle.edits.specs.Changes.{afterRemove}
 use Rattle.edits.specs.ChangeLaws.{remove-shown}
 use Rattle.edits.specs.Splices.{removed-body}
+use Rattle.image.specs.CodeLists.{job-codes}
 
 pub job-long : (e : Entry CollectionJobToken) → 1 ≤ length (job-row e)
 unfolding enc enc-text

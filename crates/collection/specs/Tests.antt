@@ -25,8 +25,8 @@ use Rattle.image.specs.declared.Contents.{Contents}
 use Rattle.requests.specs.Meaning.{maybeTextOf}
 use Rattle.next.specs.Head.{rootFlag, rootStart, rootWidth}
 use Rattle.next.specs.Kept.{root-here}
-use Rattle.next.specs.Edit.{reference-codes}
 use Rattle.reserved.specs.Located.{locatedIn, located-is}
+use Rattle.image.specs.CodeLists.{reference-codes}
 
 pub empty-list : {A : Type 0} (l : List A) → length l ≡ 0 → is-empty l ≡ true
 empty-list [] h = refl

@@ -6,15 +6,14 @@ use mathlib.Core.Bool.{Bool, true, false, _||_}
 use mathlib.Core.List.{List, [], _∷_, _++_, append-assoc, append-nil}
 use mathlib.Core.Path.{_≡_, refl, sym, ap, _∙_}
 use lib.ListN.{length, drop}
-use lib.Seq.{take-append-seam}
 use Rattle.text.specs.Same.{sameOf, prefixOf}
 use Rattle.state.specs.Maps.{Text, Map, _⟼_, key-of, same, starts-with, any, any-value}
 use Rattle.state.specs.Records.{State, CollectionJobToken}
 use Rattle.fields.specs.Format.{Field, _▹_, El, enc, enc-text, all}
 use Rattle.fields.specs.Codes.{Code, codes, codeOf, codesOf, skip}
-use Rattle.fields.specs.Rows.{text-here}
-use Rattle.fields.specs.Walks.{placeOf, rest-place, rest-trans, rest-drop, drop-within}
-use Rattle.tables.specs.Skips.{skip-rest}
+use Rattle.fields.specs.Rows.{text-here, text-there}
+use Rattle.fields.specs.Walks.{placeOf, drop-within}
+use Rattle.tables.specs.Skips.{after-record}
 use Rattle.tables.specs.Seek.{rows-at}
 use Rattle.tables.specs.SeekLaws.{tails, rows-are}
 use Rattle.image.specs.Shapes.{u64, name, key, position, reference, job, job-parts, position-parts, reference-parts}
@@ -26,7 +25,7 @@ use Rattle.image.specs.Stored.{jobs-stored}
 use Rattle.image.specs.declared.Contents.{Contents}
 use Rattle.machine.specs.Machine.{conflicts}
 use Rattle.next.specs.Peeks.{skip-to}
-use Rattle.next.specs.Edit.{job-codes}
+use Rattle.image.specs.CodeLists.{job-codes}
 
 -- what stands before a job's root, and before its namespace
 abbrev to-root : Field
@@ -48,10 +47,6 @@ root-codes = refl
 namespace-codes : codesOf (64 ∷ 8 ∷ 8 ∷ 8 ∷ 8 ∷ 9 ∷ 128 ∷ 8 ∷ 64 ∷ 64 ∷ 8 ∷ 8 ∷ []) ≡ codes to-namespace
 unfolding codesOf codeOf codes
 namespace-codes = refl
-
--- what is left at the place of a record's end
-pub after-record : (cs : List Code) (s : List ℕ) (p : ℕ) → drop (placeOf s (skip 0 cs (drop p s))) s ≡ skip 0 cs (drop p s)
-after-record cs s p = rest-place (rest-trans (rest-drop p s) (skip-rest 0 cs (drop p s)))
 
 -- ---- one job, test by test
 
@@ -124,10 +119,6 @@ module _ (P : List ℕ → Bool) (s : List ℕ) (p n i : ℕ) where
 
 -- ---- the jobs of a state
 
-text-first : (t r : List ℕ) → text-here (enc-text t ++ r) ≡ t
-unfolding text-here enc-text
-text-first t r = take-append-seam t r
-
 module _ (v : CollectionJobToken) (r : List ℕ) where
   root-row : text-here (skip 0 (codes to-root) (enc job (job-parts v) ++ r)) ≡ v .destination-root
   unfolding enc
@@ -136,7 +127,7 @@ module _ (v : CollectionJobToken) (r : List ℕ) where
       let b = enc (u64 ▹ u64 ▹ key) (v .range-map-epoch, (v .expected-collected-through, v .output-namespace)) in
       let e : enc job (job-parts v) ++ r ≡ enc to-root front ++ (enc-text (v .destination-root) ++ (b ++ r)) = simp append-assoc in
       ap (λ (l : List ℕ). text-here (skip 0 (codes to-root) l)) e
-      ∙ ap text-here (skip-to to-root front (enc-text (v .destination-root) ++ (b ++ r))) ∙ text-first (v .destination-root) (b ++ r)
+      ∙ ap text-here (skip-to to-root front (enc-text (v .destination-root) ++ (b ++ r))) ∙ text-there (v .destination-root) (b ++ r)
 
   namespace-row : text-here (skip 0 (codes to-namespace) (enc job (job-parts v) ++ r)) ≡ v .output-namespace
   unfolding enc
@@ -145,7 +136,7 @@ module _ (v : CollectionJobToken) (r : List ℕ) where
       (v .job-id, (v .owner-generation, (position-parts (v .authority-position), (v .frozen-floor, (reference-parts (v .input-manifest), (v .destination-root, (v .range-map-epoch, v .expected-collected-through)))))))
       in
       let e : enc job (job-parts v) ++ r ≡ enc to-namespace front ++ (enc-text (v .output-namespace) ++ r) = simp append-assoc in
-      ap (λ (l : List ℕ). text-here (skip 0 (codes to-namespace) l)) e ∙ ap text-here (skip-to to-namespace front (enc-text (v .output-namespace) ++ r)) ∙ text-first (v .output-namespace) r
+      ap (λ (l : List ℕ). text-here (skip 0 (codes to-namespace) l)) e ∙ ap text-here (skip-to to-namespace front (enc-text (v .output-namespace) ++ r)) ∙ text-there (v .output-namespace) r
 
 module _ (root namespace : Text) where
   conflict-row : (v : CollectionJobToken) (r : List ℕ) → conflictsAt root namespace (enc job (job-parts v) ++ r) ≡ conflicts root namespace v

@@ -11,7 +11,7 @@ use Rattle.parts.specs.Gather.{run}
 use Rattle.state.specs.Maps.{Text, lookup, same-option}
 use Rattle.state.specs.Records.{State, ObjectReference, reference-eq}
 use Rattle.fields.specs.Format.{enc, Within}
-use Rattle.fields.specs.Codes.{Code, codes, codeOf, codesOf, skip}
+use Rattle.fields.specs.Codes.{Code, codes, codesOf, skip}
 use Rattle.fields.specs.Walks.{placeOf}
 use Rattle.tables.specs.Seek.{seek, placed}
 use Rattle.tables.specs.declared.Place.{Place}
@@ -26,8 +26,9 @@ use Rattle.image.specs.declared.Table.{Table}
 use Rattle.image.specs.declared.Contents.{Contents}
 use Rattle.next.specs.Kept.{run-to, tables-here, length-here}
 use Rattle.next.specs.Peeks.{skip-to}
-use Rattle.next.specs.Edit.{reference-codes, run-row}
+use Rattle.next.specs.Edit.{run-row}
 use Rattle.publication.specs.References.{held, same-held, row-held, held-within}
+use Rattle.image.specs.CodeLists.{reference-codes, manifest-codes}
 
 -- the place of a root, and the end of a manifest
 abbrev pub rootPlace : List ℕ → Table → Text → Place
@@ -47,10 +48,6 @@ pub input-is : (x : List ℕ) (roots : Table) (root : Text) (q : List ℕ) (at :
 unfolding inputStands
 input-is x roots root q at place e end k n h shown w =
     λ i. sameOf (drop (length root + 1) (run x (e i .start) (e i .end - e i .start))) ((w ∙ ap (λ (m : ℕ). take m (drop at q)) (h ∙ ap (λ (m : ℕ). m - at) k)) i)
-
-manifest-codes : codesOf (9 ∷ 128 ∷ 8 ∷ 64 ∷ []) ≡ codes reference
-unfolding codesOf codeOf codes
-manifest-codes = refl
 
 module _ (q : List ℕ) (at : ℕ) (m : ObjectReference) (r : List ℕ) (here : drop at q ≡ enc reference (reference-parts m) ++ r) (low : at ≤ length q) where
   pub manifest-end : manifestEnd q at ≡ at + length (enc reference (reference-parts m))

@@ -45,7 +45,7 @@ use Rattle.next.specs.declared.CollectionPrepared.{CollectionPrepared as Collec
 use Rattle.next.specs.declared.PublicationOutcome.{PublicationOutcome}
 use Rattle.next.specs.Bounds.{request-small}
 use Rattle.next.specs.Kept.{run-rest, run-to, after-seam, root-here, root-size-here, small-here, before-jobs, jobs-seam}
-use Rattle.next.specs.Edit.{job-codes, run-ahead, run-behind}
+use Rattle.next.specs.Edit.{run-ahead, run-behind}
 use Rattle.reserved.specs.Located.{locatedIn, located-is}
 use Rattle.edits.specs.Changes.{afterInsert}
 use Rattle.edits.specs.ChangeLaws.{insert-shown}
@@ -56,6 +56,7 @@ use Rattle.collection_jobs.specs.Conflicts.{conflicts-here}
 use Rattle.collection_jobs.specs.Input.{inputStands, input-stands}
 use Rattle.collection_jobs.specs.Refusals.{malformedOf, or-else, prepareRefusal}
 use Rattle.collection_jobs.specs.Rules.{told, told-no, step, end, or-cond, else-cond}
+use Rattle.image.specs.CodeLists.{job-codes}
 
 -- the token as it is told: the id, of so many bytes, and the rest stand in the request
 abbrev pub preparedAt : (id-length request-length : ℕ) → ContextAt → CollectionPreparedAt

@@ -47,7 +47,7 @@ use Rattle.next.specs.Outcome.{outcomeBytes}
 use Rattle.next.specs.declared.PublicationOutcome.{PublicationOutcome}
 use Rattle.next.specs.Kept.{run-rest, run-to, after-seam, root-here, root-size-here, small-here, before-jobs, tables-here}
 use Rattle.next.specs.Peeks.{skip-to}
-use Rattle.next.specs.Edit.{job-codes, permit-codes, run-ahead, run-behind, past-place, start-is, end-is}
+use Rattle.next.specs.Edit.{run-ahead, run-behind, past-place, start-is, end-is}
 use Rattle.reserved.specs.Located.{locatedIn, reserved-here}
 use Rattle.edits.specs.Changes.{afterInsert, afterRemove}
 use Rattle.edits.specs.ChangeLaws.{insert-shown}
@@ -62,6 +62,7 @@ use Rattle.collection_jobs.specs.Rules.{told, told-no, else-cond}
 use Rattle.collection_jobs.specs.Prepare.{stale-tests}
 use Rattle.collection_publish.specs.Refusals.{sameManifest, tokenEnd, jobPlace, publishRefusal}
 use Rattle.collection_publish.specs.Rule.{rest-number, published, publish-tests}
+use Rattle.image.specs.CodeLists.{job-codes, permit-codes}
 
 -- ---- the numbers of the code's tests, one after another
 

@@ -9,8 +9,8 @@ use Rattle.fields.specs.Codes.{Code, codes, skip, codeOf, codesOf}
 use Rattle.fields.specs.Rows.{text-here}
 use Rattle.fields.specs.Walks.{placeOf}
 use Rattle.scans.specs.Scans.{namesAt, usesAt}
-use Rattle.scans.specs.ScanLaws.{after-record}
 use Rattle.deletion.specs.Permits.{before-plan, matchesOf}
+use Rattle.tables.specs.Skips.{after-record}
 
 plan-codes : codesOf (128 ∷ 12 ∷ 64 ∷ 12 ∷ 64 ∷ 8 ∷ 64 ∷ []) ≡ codes before-plan
 unfolding codesOf codeOf codes

@@ -28,8 +28,8 @@ use Rattle.next.specs.Head.{Small}
 use Rattle.next.specs.Shows.{Shows}
 use Rattle.next.specs.Kept.{before-reservations, reservations-seam, tables-here, length-here, root-here, root-size-here, small-here}
 use Rattle.next.specs.Edit as edit
-use Rattle.next.specs.Edit.{permit-codes}
 use Rattle.deletion.specs.Permits.{withReservations}
+use Rattle.image.specs.CodeLists.{permit-codes}
 
 permit-long : (e : Entry DeletePermit) → 1 ≤ length (permit-row e)
 unfolding enc enc-text

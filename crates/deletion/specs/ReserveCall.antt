@@ -33,7 +33,6 @@ use Rattle.requests.specs.declared.PublicationAction.{PublicationAction}
 use Rattle.next.specs.Asked.{fields-here}
 use Rattle.next.specs.Bounds.{request-small}
 use Rattle.next.specs.Call.{Ready, ruled}
-use Rattle.next.specs.Edit.{intent-codes, lease-codes}
 use Rattle.next.specs.Head.{Small}
 use Rattle.next.specs.Kept.{small-here, run-to, after-seam}
 use Rattle.next.specs.Outcome.{outcomeBytes}
@@ -46,6 +45,7 @@ use Rattle.deletion.specs.Permits.{withReservations}
 use Rattle.deletion.specs.Tests.{firstOf, testsOf, reserveTests}
 use Rattle.deletion.specs.Reservations.{Located, located, none-there, some-there, size-more, count-more, tables-more, reservations-show, reservations-small}
 use Rattle.deletion.specs.Reserve.{state-tests, new, reserve-refused, reserve-exists, reserve-taken}
+use Rattle.image.specs.CodeLists.{intent-codes, lease-codes}
 
 -- the permit as it is told
 abbrev pub reservedAt : (start size plan-size : ℕ) → AuthorityContext → DeleteReservedAt

@@ -9,14 +9,13 @@ use Rattle.state.specs.Maps.{same, lookup}
 use Rattle.state.specs.Records.{DeletePermit, State, AuthorityContext, PublicationAuthorityFaults, permit-eq}
 use Rattle.fields.specs.Format.{_▹_, enc, enc-text, Within}
 use Rattle.fields.specs.Codes.{codes, skip}
-use Rattle.fields.specs.Rows.{text-here}
+use Rattle.fields.specs.Rows.{text-here, text-there}
 use Rattle.image.specs.Shapes.{u64, key, identity, position, permit, permit-rest, permit-parts, identity-parts, position-parts}
 use Rattle.image.specs.SameBytes.{same-permit}
 use Rattle.machine.specs.Actions.{RetireDelete, Transition, rejected, accepted, decide, Applied}
 use Rattle.machine.specs.Machine.{act, retire-delete}
 use Rattle.machine.specs.Next.{retired}
 use Rattle.next.specs.Peeks.{skip-to}
-use Rattle.scans.specs.ScanLaws.{text-there}
 use Rattle.deletion.specs.Rules.{finds, finds-none, stops, passes, takes}
 use Rattle.deletion.specs.Permits.{before-plan, matchesOf}
 

@@ -1,13 +1,13 @@
 -- Rows, one after the other, each with a text at its head that stands after the one before it.
 use Prim.Native.Nat.{ℕ, zero, suc}
 use mathlib.Core.Bool.{Bool, true, false}
-use mathlib.Core.List.{List, [], _∷_}
+use mathlib.Core.List.{List, [], _∷_, _++_}
 use mathlib.Core.Option.{Option, some}
 use mathlib.Core.Path.{_≡_, refl, sym, ap, _∙_}
 use lib.ListN.{take}
 use lib.Seq.{take-append-seam}
 use Rattle.state.specs.Maps.{Text}
-use Rattle.fields.specs.Format.{Malformed, Res, ok, bad, bind, check, read-text, after, rows, Field, text, _▹_, El, dec}
+use Rattle.fields.specs.Format.{Malformed, Res, ok, bad, bind, check, read-text, after, rows, Field, text, _▹_, El, dec, enc-text}
 use Rattle.fields.specs.FormatLaws.{never, bind-ok, text-shape}
 use Rattle.fields.specs.Codes.{Code, codes, walk, forget, walk-codes, bind-same}
 use Rattle.fields.specs.Walks.{Rest, rest-is, rest-all, rest-trans, Leaves, walk-leaves}
@@ -25,6 +25,10 @@ pub text-here-read : (n : ℕ) (s t r : List ℕ) → read-text n s ≡ ok t r �
 unfolding text-here
 text-here-read n s t r h = ap text-here (text-shape n s t r h) ∙ take-append-seam t r
 
+pub text-there : (t r : List ℕ) → text-here (enc-text t ++ r) ≡ t
+unfolding text-here enc-text
+text-there t r = take-append-seam t r
+
 -- the row's text is the one that was read
 pub row-text : (n : ℕ) (f : Field) (s : List ℕ) (v : El (text n ▹ f)) (r : List ℕ) → dec (text n ▹ f) s ≡ ok v r → text-here s ≡ v .0
 unfolding dec
@@ -33,11 +37,11 @@ row-text n f s v r h =
     let (w, r₂, e₂, h₂) = bind-ok (dec f r₁) _ v r h₁ in
     text-here-read n s t r₁ e₁ ∙ (let q : _≡_ {A = El (text n ▹ f)} (t, w) v = cc in ap (λ (x : El (text n ▹ f)). x .0) q)
 
-bind-forget : {A B : Type 0} (m : Res A) (k : List ℕ → Res B) → bind (forget m) (λ _ r. k r) ≡ bind m (λ _ r. k r)
+pub bind-forget : {A B : Type 0} (m : Res A) (k : List ℕ → Res B) → bind (forget m) (λ _ r. k r) ≡ bind m (λ _ r. k r)
 bind-forget (ok v r) k = refl
 bind-forget (bad e) k = refl
 
-forget-bind : {A B : Type 0} (m : Res A) (k : A → List ℕ → Res B) → forget (bind m k) ≡ bind m (λ v r. forget (k v r))
+pub forget-bind : {A B : Type 0} (m : Res A) (k : A → List ℕ → Res B) → forget (bind m k) ≡ bind m (λ v r. forget (k v r))
 forget-bind (ok v r) k = refl
 forget-bind (bad e) k = refl
 

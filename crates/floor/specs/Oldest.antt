@@ -8,7 +8,7 @@ use Rattle.state.specs.Maps.{Map, _⟼_, key-of}
 use Rattle.state.specs.MapLaws.{Each}
 use Rattle.state.specs.Records.{SnapshotLeaseToken, State}
 use Rattle.fields.specs.Format.{Field, _▹_, enc, all}
-use Rattle.fields.specs.Codes.{codes, skip}
+use Rattle.fields.specs.Codes.{codes, skip, codeOf, codesOf}
 use Rattle.tables.specs.Seek.{rows-at}
 use Rattle.tables.specs.SeekLaws.{tails, rows-are}
 use Rattle.image.specs.Shapes.{u64, name, position, closure, lease, lease-parts}
@@ -25,7 +25,11 @@ use Rattle.floor.specs.Floors.{before-version, oldestAt}
 abbrev after-version : Field
 after-version = u64 ▹ name ▹ name ▹ u64 ▹ closure ▹ u64 ▹ position
 
-version-row : (t : SnapshotLeaseToken) (r : List ℕ) → t .snapshot-version < 256 ^ 8 → value (take 8 (skip 0 before-version (enc lease (lease-parts t) ++ r))) ≡ t .snapshot-version
+pub version-codes : codesOf (64 ∷ 64 ∷ []) ≡ before-version
+unfolding codesOf codeOf
+version-codes = refl
+
+pub version-row : (t : SnapshotLeaseToken) (r : List ℕ) → t .snapshot-version < 256 ^ 8 → value (take 8 (skip 0 before-version (enc lease (lease-parts t) ++ r))) ≡ t .snapshot-version
 unfolding enc codes
 version-row t r h =
     let b = enc after-version (lease-parts t .1 .1 .1) in

@@ -101,7 +101,7 @@ module _ (s : State) (f : Formed s) where
   jobs-stored = stored short job-rest (own-row job-parts) most-jobs (s .collection-jobs) (f .own-jobs) (f .fits .1 .1 .1 .1 .1 .1 .0)
 
 -- LOOKUP BY ID in a table that stands at a place: the row's bytes, none where there is no such row, and its places
-front : (a b : List ℕ) → take (length (a ++ b) - length b) (a ++ b) ≡ a
+pub front : (a b : List ℕ) → take (length (a ++ b) - length b) (a ++ b) ≡ a
 front a b = let z : length (a ++ b) - length b ≡ length a = omega (arith, length-append a b) in ap (λ (n : ℕ). take n (a ++ b)) z ∙ take-append-seam a b
 
 module _ {A : Type 0} (cs : List Code) (write : Entry A → List ℕ) (x : List ℕ) (p : ℕ) (m : Map A) (r : List ℕ)

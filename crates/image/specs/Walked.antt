@@ -14,7 +14,7 @@ use Rattle.parts.specs.DigitLaws.{bytes-right}
 use Rattle.fields.specs.Format.{Malformed, OverLimit, Res, ok, bad, bind, check, El, dec, enc}
 use Rattle.fields.specs.FormatLaws.{enc-dec}
 use Rattle.fields.specs.Codes.{codes, walk, forget, walk-codes, bind-same}
-use Rattle.fields.specs.Rows.{walk-rows, walk-rows-is}
+use Rattle.fields.specs.Rows.{walk-rows, walk-rows-is, forget-bind, bind-forget}
 use Rattle.image.specs.Body.{Body, one, table, row, write, read, Helds}
 use Rattle.image.specs.Contents.{Widths, entries, header, first, reads, decode, whole}
 use Rattle.image.specs.BodyLaws.{BodyOk, body-ok}
@@ -35,17 +35,9 @@ module _ (w : Widths) where
   walk-image bs s = bind (dec (header w bs) s) (λ h r. walk-bodies bs (first w bs) (h .1) r)
 
 -- THEY ARE THE READERS, with the values forgotten
-forget-bind : {A B : Type 0} (m : Res A) (k : A → List ℕ → Res B) → forget (bind m k) ≡ bind m (λ v r. forget (k v r))
-forget-bind (ok v r) k = refl
-forget-bind (bad e) k = refl
-
 forget-check : {A : Type 0} (b : Bool) (e : ℕ) (m : Res A) → forget (check b e m) ≡ check b e (forget m)
 forget-check true e m = refl
 forget-check false e m = refl
-
-bind-forget : {A B : Type 0} (m : Res A) (k : List ℕ → Res B) → bind (forget m) (λ _ r. k r) ≡ bind m (λ _ r. k r)
-bind-forget (ok v r) k = refl
-bind-forget (bad e) k = refl
 
 pub body-forget : (b : Body) (k : ℕ) (s : List ℕ) → walk-body b k s ≡ forget (read b k s)
 unfolding walk-body read

@@ -17,9 +17,9 @@ use Rattle.fields.specs.Walks.{Rest, placeOf, rest-place}
 use Rattle.tables.specs.Skips.{skip-rest}
 use Rattle.tables.specs.declared.Place.{Place}
 use Rattle.image.specs.Shapes.{permit}
-use Rattle.next.specs.Edit.{permit-codes}
 use Rattle.reserved.specs.Located.{locatedIn}
 use Rattle.intents.specs.StoredIntent.{from-manifest, from-root, from-prior, matchesIn, statusIn}
+use Rattle.image.specs.CodeLists.{permit-codes}
 
 -- the test on reservations, with the codes of the source
 pub tested : (ignore b : Bool) (n : ℕ) (s : List ℕ) (ks : List Text) → ignore ≡ false → b ≡ any (locatedIn (codesOf (128 ∷ 12 ∷ 64 ∷ 12 ∷ 64 ∷ 8 ∷ 64 ∷ 64 ∷ 8 ∷ 8 ∷ 8 ∷ [])) n s) ks

@@ -24,10 +24,11 @@ use Rattle.requests.specs.declared.Request.{Request as RequestAt}
 use Rattle.next.specs.Call.{Ready}
 use Rattle.next.specs.Shows.{Shown}
 use Rattle.next.specs.Kept.{tables-here, length-here}
-use Rattle.next.specs.Edit.{intent-codes, none-there, some-there}
+use Rattle.next.specs.Edit.{none-there, some-there}
 use Rattle.edits.specs.Changes.{afterInsert}
 use Rattle.edits.specs.ChangeLaws.{insert-shown}
 use Rattle.edits.specs.Splices.{inserted-three}
+use Rattle.image.specs.CodeLists.{intent-codes}
 
 pub intent-long : (e : Entry PreparedPublication) → 1 ≤ length (intent-row e)
 unfolding enc enc-text

@@ -34,7 +34,7 @@ use Rattle.next.specs.Call.{Ready}
 use Rattle.next.specs.Head.{Small}
 use Rattle.next.specs.Kept.{after-seam, run-to, length-here}
 use Rattle.next.specs.Shows.{Shown, Shows}
-use Rattle.next.specs.Edit.{reference-codes, run-row, run-ahead, past-place, end-is}
+use Rattle.next.specs.Edit.{run-row, run-ahead, past-place, end-is}
 use Rattle.edits.specs.Changes.{afterInsert, afterRemove, afterChange}
 use Rattle.edits.specs.ChangeLaws.{insert-shown, remove-shown, small-change, shows-change}
 use Rattle.edits.specs.Splices.{inserted-two}
@@ -44,6 +44,7 @@ use Rattle.intents.specs.Intents.{intent-code-list, intent-long, intents
 use Rattle.intents.specs.StoredIntent.{statusIn}
 use Rattle.intents.specs.StoredLaws.{held-intent, intent-held, intent-within, status-is}
 use Rattle.intents.specs.PublishRule.{intent-refusal}
+use Rattle.image.specs.CodeLists.{reference-codes}
 
 module _ {x : List ℕ} {c : Contents} {q : List ℕ} {ctx : ContextAt} {f : FaultsAt} {a : PublishAt} (ready : Ready x c q (record { context = ctx; faults = f; action = PublicationAction.Publish a })) where
   abbrev st : State

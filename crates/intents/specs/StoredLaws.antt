@@ -1,13 +1,12 @@
 -- On the row of a stored intent, the tests over bytes are those of the rule.
 use Prim.Native.Nat.{ℕ, _+_, _-_}
-use native.Mathlib.Omega.{arith}
 use mathlib.Core.Bool.{Bool, true, false, not, cond, _&&_}
 use mathlib.Core.List.{List, [], _∷_, _++_, append-assoc}
 use mathlib.Core.Option.{Option, none, some}
 use mathlib.Core.Path.{_≡_, refl, sym, ap, _∙_}
 use lib.Dec.{eqb}
-use lib.ListN.{length, take, drop, length-append}
-use lib.Seq.{take-append-seam, drop-append-seam, drop-nil}
+use lib.ListN.{length, take, drop}
+use lib.Seq.{drop-append-seam, drop-nil}
 use Rattle.text.specs.Same.{sameOf}
 use Rattle.parts.specs.Digits.{digits, value}
 use Rattle.parts.specs.DigitLaws.{length-digits}
@@ -17,12 +16,12 @@ use Rattle.state.specs.Places.{at}
 use Rattle.state.specs.Records.{ObjectReference, PreparedPublication, reference-eq}
 use Rattle.fields.specs.Format.{_▹_, enc, enc-text, option, all, Within}
 use Rattle.fields.specs.Codes.{codes, skip, codeOf, codesOf, set-most, key-limit}
-use Rattle.fields.specs.Rows.{text-here}
+use Rattle.fields.specs.Rows.{text-here, text-there}
 use Rattle.sets.specs.Sets.{set-of, set-of-enc}
 use Rattle.image.specs.Shapes.{short, u64, name, keys, reference, prepared, reference-parts, prepared-parts, each-option}
 use Rattle.image.specs.Layout.{row-of}
 use Rattle.image.specs.Tables.{intent-row}
-use Rattle.image.specs.Stored.{Stored}
+use Rattle.image.specs.Stored.{Stored, front}
 use Rattle.image.specs.SameBytes.{same-reference, same-prior}
 use Rattle.machine.specs.Machine.{fails, intent-matches}
 use Rattle.next.specs.Edit.{Standing, absent, present, standing}
@@ -30,6 +29,7 @@ use Rattle.next.specs.Peeks.{skip-to, number-here}
 use Rattle.publication.specs.References.{HeldWithin, row-rest}
 use Rattle.intents.specs.StoredIntent.{from-manifest, from-root, from-prior, matchesIn, statusIn}
 use Rattle.intents.specs.PublishRule.{first-of}
+use Rattle.image.specs.CodeLists.{manifest-codes}
 
 abbrev pub held-intent : Option PreparedPublication → List ℕ
 held-intent none = []
@@ -58,20 +58,9 @@ owner-codes : codesOf (8 ∷ 10 ∷ []) ≡ codes (u64 ▹ keys)
 unfolding codesOf codeOf codes
 owner-codes = refl
 
-manifest-codes : codesOf (9 ∷ 128 ∷ 8 ∷ 64 ∷ []) ≡ codes reference
-unfolding codesOf codeOf codes
-manifest-codes = refl
-
 name-codes : codesOf (64 ∷ []) ≡ codes name
 unfolding codesOf codeOf codes
 name-codes = refl
-
-front-part : (a b : List ℕ) → take (length (a ++ b) - length b) (a ++ b) ≡ a
-front-part a b = let z : length (a ++ b) - length b ≡ length a = omega (arith, length-append a b) in ap (λ (n : ℕ). take n (a ++ b)) z ∙ take-append-seam a b
-
-text-first : (t r : List ℕ) → text-here (enc-text t ++ r) ≡ t
-unfolding text-here enc-text
-text-first t r = take-append-seam t r
 
 in-order : (a b c d : Bool) → (a && (b && (c && d))) ≡ (a && b && c && d)
 in-order false b c d = refl
@@ -116,8 +105,8 @@ module _ (v : PreparedPublication) (manifest : ObjectReference) (root : Text) (p
     matches-is =
         (λ i. sameOf (take (length (at-manifest i) - length (at-root i)) (at-manifest i)) (enc reference (reference-parts manifest))
         && (sameOf (text-here (at-root i)) root && (sameOf (at-prior i) (enc (option reference) (each-option reference-parts prior)) && contains (manifest .key) (keys-there i))))
-        ∙ (λ i. sameOf (front-part r d i) (enc reference (reference-parts manifest))
-        && (sameOf (text-first (v .intent .destination-root) (enc (option reference) (each-option reference-parts (v .intent .expected-prior-root))) i) root
+        ∙ (λ i. sameOf (front r d i) (enc reference (reference-parts manifest))
+        && (sameOf (text-there (v .intent .destination-root) (enc (option reference) (each-option reference-parts (v .intent .expected-prior-root))) i) root
         && (same-prior (v .intent .expected-prior-root) prior (w .1 .1 .1 .1) wp i && contains (manifest .key) (v .intent .object-keys))))
         ∙ ap (λ (t : Bool). t && (sameOf (v .intent .destination-root) root && (same-option reference-eq (v .intent .expected-prior-root) prior && contains (manifest .key) (v .intent .object-keys))))
         (same-reference (v .intent .manifest) manifest (w .1 .1 .0) wm)

@@ -11,7 +11,7 @@ use Rattle.state.specs.Places.{ahead, at, behind, split-is, insert-is}
 use Rattle.state.specs.MapLaws.{Each, by-test}
 use Rattle.state.specs.Records.{SnapshotLeaseToken, State}
 use Rattle.fields.specs.Format.{all}
-use Rattle.fields.specs.Codes.{Code, codes, skip, codeOf, codesOf}
+use Rattle.fields.specs.Codes.{Code, codes, skip, codesOf}
 use Rattle.fields.specs.Walks.{placeOf}
 use Rattle.fields.specs.Rows.{text-here}
 use Rattle.tables.specs.Seek.{rows-at}
@@ -26,16 +26,12 @@ use Rattle.machine.specs.Next.{oldest}
 use Rattle.entries.specs.Sized.{image-texts, well-formed}
 use Rattle.next.specs.Due.{rows-none, rows-next}
 use Rattle.floor.specs.Floors.{before-version}
-use Rattle.leases.specs.Rows.{version-row}
+use Rattle.floor.specs.Oldest.{version-codes, version-row}
 
 -- a row that is gone is passed over
 unfoldable pub oldestKept : (List ℕ → Bool) → ℕ → List (List ℕ) → ℕ
 oldestKept gone floor [] = floor
 oldestKept gone floor (r ∷ rs) = cond (gone r) (oldestKept gone floor rs) (min (value (take 8 (skip 0 before-version r))) (oldestKept gone floor rs))
-
-version-codes : codesOf (64 ∷ 64 ∷ []) ≡ before-version
-unfolding codesOf codeOf
-version-codes = refl
 
 kept-in : (gone : List ℕ → Bool) (v m : ℕ) (rs : List (List ℕ)) → min v (oldestKept gone m rs) ≡ oldestKept gone (min v m) rs
 unfolding oldestKept

@@ -23,9 +23,10 @@ use Rattle.image.specs.Stored.{leases-stored}
 use Rattle.image.specs.declared.Contents.{Contents}
 use Rattle.machine.specs.Actions.{Rule, find-or, decide}
 use Rattle.next.specs.Kept.{tables-here, length-here, before-leases, leases-seam}
-use Rattle.next.specs.Edit.{lease-codes, none-there, some-there, from-place, run-ahead, run-behind, remove-size, remove-count, insert-over, insert-new, insert-size}
+use Rattle.next.specs.Edit.{none-there, some-there, from-place, run-ahead, run-behind, remove-size, remove-count, insert-over, insert-new, insert-size}
 use Rattle.next.specs.Due.{before-deadline}
 use Rattle.leases.specs.Rows.{before-epoch, epoch-row, deadline-row}
+use Rattle.image.specs.CodeLists.{lease-codes}
 
 long : (e : Entry SnapshotLeaseToken) → 1 ≤ length (lease-row e)
 unfolding enc enc-text

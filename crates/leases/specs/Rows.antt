@@ -8,7 +8,6 @@ use Rattle.state.specs.Records.{SnapshotLeaseToken}
 use Rattle.fields.specs.Format.{Field, _▹_, El, enc}
 use Rattle.fields.specs.Codes.{Code, a-text, a-number, codes, skip}
 use Rattle.image.specs.Shapes.{short, u64, name, position, closure, lease, lease-parts}
-use Rattle.floor.specs.Floors.{before-version}
 use Rattle.next.specs.Due.{before-deadline}
 use Rattle.next.specs.Peeks.{skip-to, number-here}
 
@@ -20,13 +19,6 @@ number-in : (f : Field) (v : El f) (n : ℕ) (r : List ℕ) → n < 256 ^ 8 → 
 number-in f v n r h = ap (λ (l : List ℕ). value (take 8 l)) (skip-to f v (digits 8 n ++ r)) ∙ number-here n r h
 
 module _ (t : SnapshotLeaseToken) (r : List ℕ) where
-  pub version-row : t .snapshot-version < 256 ^ 8 → value (take 8 (skip 0 before-version (enc lease (lease-parts t) ++ r))) ≡ t .snapshot-version
-  unfolding enc codes
-  version-row h =
-      let b = enc (u64 ▹ name ▹ name ▹ u64 ▹ closure ▹ u64 ▹ position) (lease-parts t .1 .1 .1) in
-      let e : enc lease (lease-parts t) ++ r ≡ enc (name ▹ name) (t .lease-id, t .tenant-id) ++ (digits 8 (t .snapshot-version) ++ (b ++ r)) = simp append-assoc in
-      ap (λ (l : List ℕ). value (take 8 (skip 0 before-version l))) e ∙ number-in (name ▹ name) (t .lease-id, t .tenant-id) (t .snapshot-version) (b ++ r) h
-
   pub epoch-row : t .lease-epoch < 256 ^ 8 → value (take 8 (skip 0 before-epoch (enc lease (lease-parts t) ++ r))) ≡ t .lease-epoch
   unfolding enc codes
   epoch-row h =

@@ -13,37 +13,16 @@ use Rattle.state.specs.Maps.{Text, Map, Entry, _⟼_, key-of, Every, lookup, in
 use Rattle.state.specs.Sorted.{Ascending}
 use Rattle.state.specs.Places.{ahead, at, behind, split-is, insert-is, remove-is, first-value, lookup-is}
 use Rattle.fields.specs.Format.{all}
-use Rattle.fields.specs.Codes.{Code, codes, codeOf, codesOf}
+use Rattle.fields.specs.Codes.{Code}
 use Rattle.tables.specs.Seek.{seek, placed}
 use Rattle.tables.specs.SeekLaws.{Hopped}
 use Rattle.tables.specs.declared.Place.{Place}
 use Rattle.image.specs.Body.{row}
-use Rattle.image.specs.Shapes.{short, reference, prepared, permit, lease, job}
 use Rattle.image.specs.Tables.{bytes-split, bytes-insert, bytes-remove}
 use Rattle.image.specs.Stored.{find-place}
 use Rattle.next.specs.Kept.{run-rest, run-to, after-seam}
 
 -- ---- the code lists of the tables
-
-pub intent-codes : codesOf (64 ∷ 8 ∷ 10 ∷ 9 ∷ 128 ∷ 8 ∷ 64 ∷ 64 ∷ 15 ∷ 9 ∷ 128 ∷ 8 ∷ 64 ∷ []) ≡ codes (row short prepared)
-unfolding codesOf codeOf codes
-intent-codes = refl
-
-pub reference-codes : codesOf (64 ∷ 9 ∷ 128 ∷ 8 ∷ 64 ∷ []) ≡ codes (row short reference)
-unfolding codesOf codeOf codes
-reference-codes = refl
-
-pub permit-codes : codesOf (128 ∷ 12 ∷ 64 ∷ 12 ∷ 64 ∷ 8 ∷ 64 ∷ 64 ∷ 8 ∷ 8 ∷ 8 ∷ []) ≡ codes permit
-unfolding codesOf codeOf codes
-permit-codes = refl
-
-pub lease-codes : codesOf (64 ∷ 64 ∷ 8 ∷ 8 ∷ 64 ∷ 64 ∷ 8 ∷ 9 ∷ 128 ∷ 8 ∷ 64 ∷ 10 ∷ 8 ∷ 8 ∷ 8 ∷ []) ≡ codes lease
-unfolding codesOf codeOf codes
-lease-codes = refl
-
-pub job-codes : codesOf (64 ∷ 8 ∷ 8 ∷ 8 ∷ 8 ∷ 9 ∷ 128 ∷ 8 ∷ 64 ∷ 64 ∷ 8 ∷ 8 ∷ 128 ∷ []) ≡ codes job
-unfolding codesOf codeOf codes
-job-codes = refl
 
 -- ---- what stands under a key
 

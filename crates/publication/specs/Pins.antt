@@ -22,11 +22,12 @@ use Rattle.requests.specs.declared.Request.{Request as RequestAt}
 use Rattle.next.specs.Call.{Ready}
 use Rattle.next.specs.Shows.{Shown}
 use Rattle.next.specs.Kept.{tables-here, length-here}
-use Rattle.next.specs.Edit.{reference-codes, run-row}
+use Rattle.next.specs.Edit.{run-row}
 use Rattle.edits.specs.Changes.{afterInsert, afterRemove}
 use Rattle.edits.specs.ChangeLaws.{insert-shown, remove-shown}
 use Rattle.edits.specs.Splices.{removed-body, inserted-two}
 use Rattle.publication.specs.References.{held, row-held, reference-long}
+use Rattle.image.specs.CodeLists.{reference-codes}
 
 module _ {x : List ℕ} {c : Contents} {q : List ℕ} {rq : RequestAt} (ready : Ready x c q rq) where
   abbrev st : State

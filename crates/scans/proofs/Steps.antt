@@ -13,7 +13,7 @@ use Rattle.fields.specs.Walks.{placeOf, drop-within}
 use Rattle.sets.specs.Sets.{set-of}
 use Rattle.tables.specs.Seek.{rows-at}
 use Rattle.scans.specs.Scans.{namesAt, before-manifest-key, before-namespace, usesAt}
-use Rattle.scans.specs.ScanLaws.{after-record}
+use Rattle.tables.specs.Skips.{after-record}
 
 module _ (T : List ℕ → Bool) (cs : List Code) (s : List ℕ) (n i p : ℕ) where
   abbrev left-over : Bool

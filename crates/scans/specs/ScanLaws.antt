@@ -4,14 +4,11 @@ use mathlib.Core.List.{List, [], _∷_, _++_, append-assoc, append-nil}
 use mathlib.Core.Bool.{Bool, _||_}
 use mathlib.Core.Path.{_≡_, refl, sym, ap, _∙_}
 use lib.ListN.{length, drop}
-use lib.Seq.{take-append-seam}
 use Rattle.state.specs.Maps.{Text, Map, Entry, _⟼_, key-of, same, starts-with, contains, any, any-value, Every}
 use Rattle.state.specs.Records.{PreparedPublication, SnapshotLeaseToken, CollectionJobToken, State, names}
 use Rattle.fields.specs.Format.{Field, option, set, _▹_, El, enc, enc-text, all}
 use Rattle.fields.specs.Codes.{Code, codes, skip, set-most, key-limit, codeOf, codesOf}
-use Rattle.fields.specs.Rows.{text-here}
-use Rattle.fields.specs.Walks.{placeOf, rest-place, rest-trans, rest-drop}
-use Rattle.tables.specs.Skips.{skip-rest}
+use Rattle.fields.specs.Rows.{text-here, text-there}
 use Rattle.sets.specs.Sets.{texts-of, set-of}
 use Rattle.tables.specs.Seek.{rows-at}
 use Rattle.tables.specs.SeekLaws.{Hopped, tails, rows-are}
@@ -24,15 +21,7 @@ use Rattle.image.specs.Stored.{intents-stored, leases-stored, jobs-stored}
 use Rattle.next.specs.Peeks.{hop-text, skip-to}
 use Rattle.scans.specs.Scans.{namesAt, before-manifest-key, before-namespace, usesAt}
 
--- what is left at the place of a record's end
-pub after-record : (cs : List Code) (s : List ℕ) (p : ℕ) → drop (placeOf s (skip 0 cs (drop p s))) s ≡ skip 0 cs (drop p s)
-after-record cs s p = rest-place (rest-trans (rest-drop p s) (skip-rest 0 cs (drop p s)))
-
 -- ---- texts and sets that were written
-
-pub text-there : (t r : List ℕ) → text-here (enc-text t ++ r) ≡ t
-unfolding text-here enc-text
-text-there t r = take-append-seam t r
 
 texts-there : (ts : List Text) (r : List ℕ) → texts-of (length ts) (all enc-text ts ++ r) ≡ ts
 unfolding texts-of all

@@ -3,7 +3,8 @@ use Prim.Native.Nat.{ℕ, zero, suc, _-_}
 use mathlib.Core.List.{List, [], _∷_}
 use mathlib.Core.Path.{_≡_, refl}
 use Rattle.fields.specs.Codes.{Code, a-number, a-kind, a-text, a-set, maybe, past, passed, skip}
-use Rattle.fields.specs.Walks.{Rest, rest-all, rest-drop, rest-trans, hop-rest, hop-set-rest}
+use lib.ListN.{drop}
+use Rattle.fields.specs.Walks.{placeOf, Rest, rest-all, rest-drop, rest-trans, rest-place, hop-rest, hop-set-rest}
 
 -- one code, where so many are yet to be passed over: how many are left, and the rest
 unfoldable pub left-over : ℕ → Code → List ℕ → ℕ
@@ -37,3 +38,7 @@ unfolding skip
 skip-rest k [] s = rest-all s
 skip-rest zero (c ∷ cs) s = rest-trans (past-rest c s) (skip-rest (passed c s) cs (past c s))
 skip-rest (suc k) (c ∷ cs) s = skip-rest k cs s
+
+-- what is left at the place of a record's end
+pub after-record : (cs : List Code) (s : List ℕ) (p : ℕ) → drop (placeOf s (skip 0 cs (drop p s))) s ≡ skip 0 cs (drop p s)
+after-record cs s p = rest-place (rest-trans (rest-drop p s) (skip-rest 0 cs (drop p s)))

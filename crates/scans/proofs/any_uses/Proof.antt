@@ -1,5 +1,4 @@
 use Rattle.image.specs.Shapes.{job}
-use Rattle.next.specs.Edit.{job-codes}
 use Prim.Native.Nat.{_≤_, _-_, zero-le}
 use mathlib.Core.Path.{_≡_, sym, ap, _∙_}
 use mathlib.Core.List.{List}
@@ -14,6 +13,7 @@ use Rattle.scans.proofs.Steps.{scan-start, scan-end, scan-here, scan-on
 use borrow.Author.Needs.{needs}
 use Rattle.scans.proofs.any_uses.Statement.{statement}
 use Rattle.scans.proofs.any_uses.Tie as tie
+use Rattle.image.specs.CodeLists.{job-codes}
 
 abbrev Inv-loop : tie.InvT-loop
 Inv-loop s at n key i₀ p₀ t i p = (i ≤ n) × (any (usesAt key) (rows-at (codes job) n (drop at s)) ≡ any (usesAt key) (rows-at (codes job) (n - i) (drop p s)))
