@@ -2,23 +2,7 @@
 use crate::wire::{Reader, Request, Wire};
 use okv_publication::*;
 
-#[link(name = "okv", kind = "static")]
-extern "C" {
-    fn okv_test(image: *const u8, size: usize) -> u32;
-    fn okv_apply(
-        image: *const u8,
-        image_size: usize,
-        request: *const u8,
-        request_size: usize,
-        next: *mut u8,
-        next_room: usize,
-        outcome: *mut u8,
-        outcome_room: usize,
-        image_length: *mut usize,
-        outcome_length: *mut usize,
-    ) -> u32;
-    fn okv_validate(image: *const u8, size: usize, token: *const u8, token_size: usize) -> u32;
-}
+include!(env!("OKV_RS"));
 
 /// The slices that are lent to every call.
 pub struct Lent {

@@ -1,24 +1,7 @@
 //! The four functions of include/okv.h, called with slices that lie between bytes which must not change.
 use crate::oracle::Answer;
 
-#[link(name = "okv", kind = "static")]
-extern "C" {
-    fn okv_default(image: *mut u8, room: usize, length: *mut usize) -> u32;
-    fn okv_test(image: *const u8, size: usize) -> u32;
-    fn okv_apply(
-        image: *const u8,
-        image_size: usize,
-        request: *const u8,
-        request_size: usize,
-        next: *mut u8,
-        next_room: usize,
-        outcome: *mut u8,
-        outcome_room: usize,
-        image_length: *mut usize,
-        outcome_length: *mut usize,
-    ) -> u32;
-    fn okv_validate(image: *const u8, size: usize, token: *const u8, token_size: usize) -> u32;
-}
+include!(env!("OKV_RS"));
 
 const FILL: u8 = 0xA5;
 const MARGIN: usize = 16;

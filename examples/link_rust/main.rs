@@ -7,16 +7,7 @@ use std::io::Read;
 /// The functions of include/okv.h over slices. An error is the number of the refusal.
 mod okv {
     mod c {
-        extern "C" {
-            pub fn okv_default(image: *mut u8, image_room: usize, length: *mut usize) -> u32;
-            pub fn okv_test(image: *const u8, image_size: usize) -> u32;
-            pub fn okv_apply(
-                image: *const u8, image_size: usize, request: *const u8, request_size: usize,
-                next: *mut u8, next_room: usize, outcome: *mut u8, outcome_room: usize,
-                image_length: *mut usize, outcome_length: *mut usize,
-            ) -> u32;
-            pub fn okv_validate(image: *const u8, image_size: usize, token: *const u8, token_size: usize) -> u32;
-        }
+        include!("../../include/okv.rs");
     }
 
     fn answer<T>(status: u32, value: T) -> Result<T, u32> {
