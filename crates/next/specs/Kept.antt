@@ -53,12 +53,6 @@ module _ (s : State) where
   abbrev pub before-jobs : List ℕ → List ℕ
   before-jobs r = before-leases (leases-bytes s ++ r)
 
-  pub roots-seam : (a r : List ℕ) → before-roots (a ++ r) ≡ before-roots a ++ r
-  roots-seam a r = simp append-assoc
-
-  pub pins-seam : (a r : List ℕ) → before-pins (a ++ r) ≡ before-pins a ++ r
-  pins-seam a r = simp append-assoc
-
   pub reservations-seam : (a r : List ℕ) → before-reservations (a ++ r) ≡ before-reservations a ++ r
   reservations-seam a r = simp append-assoc
 

@@ -20,9 +20,6 @@ use Rattle.tables.specs.declared.Place.{Place}
 
 -- ---- places
 
-pub no-further : (s : List ℕ) (r : List ℕ) → placeOf s r ≤ length s
-no-further s r = omega arith
-
 -- what is left at the place of a rest is the rest
 pub at-rest : (s : List ℕ) (p : ℕ) (r : List ℕ) → Rest (drop p s) r → drop (placeOf s r) s ≡ r
 at-rest s p r a = rest-place (rest-trans (rest-drop p s) a)
