@@ -164,7 +164,7 @@ module _ (cs : List Code) (id s : List ℕ) (p n i : ℕ) where
     seek-on o = let q : orderOf id (text-here (drop p s)) ≡ Greater = sym (ap (orderOf id) e) ∙ o in rw (one-less k, q, at-rest s p (skip 0 cs (drop p s)) (skip-rest 0 cs (drop p s)))
 
 -- the row's part, by its place
-pub find-part : (s : List ℕ) (at : ℕ) (x : Seen) (p : Place) (n : ℕ) → p ≡ placed s x → n ≡ p .end - p .start → SeenIn (drop at s) x → take n (drop (p .start) s) ≡ row-of x
-find-part s at x p n e q i =
+pub find-part : (s : List ℕ) (at : ℕ) (x : Seen) (p : Place) → p ≡ placed s x → SeenIn (drop at s) x → take (p .end - p .start) (drop (p .start) s) ≡ row-of x
+find-part s at x p e i =
     let j : SeenIn s x = record { from-rest = rest-trans (rest-drop at s) (i .from-rest); to-rest = i .to-rest } in
-    ap (λ (m : ℕ). take m (drop (p .start) s)) q ∙ ap (λ (y : Place). take (y .end - y .start) (drop (y .start) s)) e ∙ row-places s x j
+    ap (λ (y : Place). take (y .end - y .start) (drop (y .start) s)) e ∙ row-places s x j

@@ -4,6 +4,7 @@ ghost use Prim.Native.Nat.{ℕ, _+_, _-_, _≤_, _<_, min};
 ghost use lib.ListN.{length, take, drop};
 ghost use Rattle.fields.specs.Codes.{hop, hops, hop-set, absent-codes, past, passed, skip, codeOf, codesOf};
 ghost use Rattle.fields.specs.Walks.{placeOf};
+ghost use Rattle.parts.specs.Gather.{run};
 ghost use Rattle.tables.specs.Skips.{left-over, past-over};
 ghost use Rattle.tables.specs.Seek.{seek, placed, row-of};
 use text::Order;
@@ -163,10 +164,16 @@ pub fn locate(codes: &[u8], s: &[u8], at: usize, n: usize, id: &[u8]) -> Place
     Place { start: p, end: p }
 }
 
+// The row that `locate` found, as a part of s; empty where there is none.
+pub fn row<'a>(s: &'a [u8], p: Place) -> &'a [u8]
+    ensures { λ r. ⌜ now r ≡ run (now (s .entry)) (p .start) (p .end - p .start) ⌝ }
+{
+    parts::clip(s, p.start, parts::less(p.end, p.start))
+}
+
 // The row with an id, as a part of s; empty where there is none.
 pub fn find<'a>(codes: &[u8], s: &'a [u8], at: usize, n: usize, id: &[u8]) -> &'a [u8]
     ensures { λ r. ⌜ now r ≡ row-of (seek (codesOf (now (codes .entry))) n (now (id .entry)) (drop at (now (s .entry)))) ⌝ }
 {
-    let p = locate(codes, s, at, n, id);
-    parts::clip(s, p.start, parts::less(p.end, p.start))
+    row(s, locate(codes, s, at, n, id))
 }
