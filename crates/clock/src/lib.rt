@@ -188,5 +188,15 @@ pub fn advance_lease_clock(
         ended: t.ended,
     });
     let used = 3 * (leases.count + 2);
-    next::emit(0, c2, image, request, &body[0..used], told, next, outcome)
+    next::emit(
+        0,
+        c2,
+        image,
+        request,
+        &body[0..used],
+        image,
+        told,
+        next,
+        outcome,
+    )
 }

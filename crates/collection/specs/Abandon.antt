@@ -16,7 +16,7 @@ use Rattle.state.specs.Records.{State, AuthorityContext, PublicationAuthorityFa
 use Rattle.state.specs.Setters.{set-revision}
 use Rattle.fields.specs.Format.{enc, all}
 use Rattle.fields.specs.Codes.{codesOf}
-use Rattle.tables.specs.Seek.{seek, placed}
+use Rattle.tables.specs.Seek.{Seen, seek, placed}
 use Rattle.tables.specs.declared.Place.{Place}
 use Rattle.image.specs.Shapes.{job, job-parts}
 use Rattle.image.specs.Tables.{job-row}
@@ -37,6 +37,7 @@ use Rattle.next.specs.Shows.{Shown, Shows}
 use Rattle.edits.specs.Changes.{afterRemove}
 use Rattle.next.specs.Call.{Ready, ruled}
 use Rattle.next.specs.Asked.{fields-here}
+use Rattle.next.specs.Edit.{row-none, row-some}
 use Rattle.next.specs.Kept.{run-rest, root-here, root-size-here, small-here}
 use Rattle.collection.specs.After.{contentsAfter, after-shows}
 use Rattle.collection.specs.Tests.{not-true, not-false}
@@ -94,6 +95,17 @@ module _ {x q : List ℕ} {c : Contents} {y : ContextAt} {g : FaultsAt} {a : Job
 
     here : place ≡ placed x (seek (codesOf (64 ∷ 8 ∷ 8 ∷ 8 ∷ 8 ∷ 9 ∷ 128 ∷ 8 ∷ 64 ∷ 64 ∷ 8 ∷ 8 ∷ 128 ∷ [])) (c .jobs .count) (token .job-id) (drop (c .jobs .at) x))
     here = located ∙ ap (λ (k : Text). placed x (seek (codesOf (64 ∷ 8 ∷ 8 ∷ 8 ∷ 8 ∷ 9 ∷ 128 ∷ 8 ∷ 64 ∷ 64 ∷ 8 ∷ 8 ∷ 128 ∷ [])) (c .jobs .count) k (drop (c .jobs .at) x))) clipped
+
+    -- the row there: none, or one
+    module _ {stored : List ℕ} (stored-is : stored ≡ run x (place .start) (place .end - place .start)) where
+      abbrev sought : Seen
+      sought = seek (codesOf (64 ∷ 8 ∷ 8 ∷ 8 ∷ 8 ∷ 9 ∷ 128 ∷ 8 ∷ 64 ∷ 64 ∷ 8 ∷ 8 ∷ 128 ∷ [])) (c .jobs .count) id (drop (c .jobs .at) x)
+
+      pub no-row : length stored ≡ 0 → place .end ≤ place .start
+      no-row = row-none x sought place located stored stored-is
+
+      pub a-row : (length stored ≡ 0 → ⊥) → place .start < place .end
+      a-row = row-some x sought place located stored stored-is
 
     pub job-missing : place .end ≤ place .start → ruled pre ≡ rejected 30
     job-missing h = ruled-missing s token _ _ (no-job s x (pre .image-is) (pre .formed) c (pre .opened) (token .job-id) place here h .1)

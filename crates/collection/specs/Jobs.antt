@@ -12,18 +12,18 @@ use Rattle.state.specs.Places.{at}
 use Rattle.state.specs.Records.{State, CollectionJobToken, job-eq}
 use Rattle.fields.specs.Format.{all, enc, enc-text, Within}
 use Rattle.fields.specs.Codes.{Code, codes, codesOf}
-use Rattle.tables.specs.Seek.{seek, placed}
+use Rattle.tables.specs.Seek.{seek, placed, row-of}
 use Rattle.tables.specs.declared.Place.{Place}
 use Rattle.image.specs.Shapes.{job, job-parts}
 use Rattle.image.specs.Layout.{encodeImage, Formed}
 use Rattle.image.specs.Tables.{job-row}
 use Rattle.image.specs.SameBytes.{same-job}
-use Rattle.image.specs.ImageParts.{jobs-bytes, intents-at, jobs-at}
+use Rattle.image.specs.ImageParts.{jobs-bytes, intents-at, jobs-at, at-jobs}
 use Rattle.image.specs.Opened.{contentsOf}
-use Rattle.image.specs.Stored.{jobs-stored}
+use Rattle.image.specs.Stored.{jobs-stored, find-row}
 use Rattle.image.specs.declared.Contents.{Contents}
 use Rattle.next.specs.Kept.{tables-here, length-here, before-jobs, jobs-seam}
-use Rattle.next.specs.Edit.{run-row, none-there, some-there}
+use Rattle.next.specs.Edit.{Standing, absent, present, standing, run-row, none-there, some-there}
 use Rattle.next.specs.Shows.{Shown}
 use Rattle.edits.specs.Changes.{afterRemove}
 use Rattle.edits.specs.ChangeLaws.{remove-shown}
@@ -91,3 +91,34 @@ module _ (s : State) (x : List ℕ) (e : encodeImage s ≡ x) (f : Formed s) (c 
         ∙ removed-body (codes job) job-row x q (intents-at s) (jobs-at s) (before-jobs s []) jobs [] (jobs-here s x e) (jobs-start s x e) (tables-low s x e) (jobs-stored s f .hopped) id place job-found
         (jobs-stored s f .ascending)
         ∙ ap (λ (l : List ℕ). before-jobs s [] ++ l) (append-nil (all job-row (remove id jobs))) ∙ sym (jobs-seam s [] (all job-row (remove id jobs)))
+
+-- THE JOB'S ROW, as the lookup hands it back
+module _ (s : State) (x : List ℕ) (e : encodeImage s ≡ x) (f : Formed s) (c : Contents) (o : c ≡ contentsOf s) (id : Text) (stored : List ℕ)
+    (found : stored ≡ row-of (seek (codesOf (64 ∷ 8 ∷ 8 ∷ 8 ∷ 8 ∷ 9 ∷ 128 ∷ 8 ∷ 64 ∷ 64 ∷ 8 ∷ 8 ∷ 128 ∷ [])) (c .jobs .count) id (drop (c .jobs .at) x)))
+  where
+    row-is : stored ≡ all job-row (at id (s .collection-jobs))
+    row-is =
+        found
+        ∙ (λ i. row-of (seek (job-codes i) (o i .jobs .count) id (drop (o i .jobs .at) x)))
+        ∙ find-row (codes job) job-row x (jobs-at s) (s .collection-jobs) [] (ap (drop (jobs-at s)) (sym e) ∙ at-jobs s ∙ sym (append-nil (jobs-bytes s))) (jobs-stored s f .hopped) id
+
+    row-of-one : (v : CollectionJobToken) → at id (s .collection-jobs) ≡ (id ⟼ v) ∷ [] → stored ≡ enc job (job-parts v)
+    unfolding all
+    row-of-one v there = row-is ∙ ap (all job-row) there ∙ append-nil (job-row (id ⟼ v))
+
+    pub no-job-row : length stored ≡ 0 → lookup id (s .collection-jobs) ≡ none
+    no-job-row h = go (standing id (s .collection-jobs) (jobs-stored s f .ascending))
+      where
+        go : Standing id (s .collection-jobs) → lookup id (s .collection-jobs) ≡ none
+        go (absent a l) = l
+        go (present v a l) = absurd (let z = ap length (row-of-one v a) in omega (arith, job-long (id ⟼ v)))
+
+    pub a-job-row : (length stored ≡ 0 → ⊥) → (v : CollectionJobToken) × (lookup id (s .collection-jobs) ≡ some v)
+        × ((t : CollectionJobToken) → Within job (job-parts t) → (shown : List ℕ) → shown ≡ enc job (job-parts t) → sameOf stored shown ≡ job-eq v t)
+    unfolding all
+    a-job-row h = go (standing id (s .collection-jobs) (jobs-stored s f .ascending))
+      where
+        go : Standing id (s .collection-jobs) → (v : CollectionJobToken) × (lookup id (s .collection-jobs) ≡ some v)
+            × ((t : CollectionJobToken) → Within job (job-parts t) → (shown : List ℕ) → shown ≡ enc job (job-parts t) → sameOf stored shown ≡ job-eq v t)
+        go (absent a l) = absurd (h (ap length (row-is ∙ ap (all job-row) a)))
+        go (present v a l) = (v, l, λ t w shown k. (λ i. sameOf (row-of-one v a i) (k i)) ∙ same-job v t (jobs-stored s f .found id v l .1) w)

@@ -130,7 +130,7 @@ pub fn configure_collection_root(
     );
     let body = [0, c.intents.at, image.len()];
     let told = PublicationOutcome::Applied;
-    next::emit(1, c2, image, request, &body, told, next, outcome)
+    next::emit(1, c2, image, request, &body, image, told, next, outcome)
 }
 
 pub fn abandon_collection(
@@ -153,10 +153,10 @@ pub fn abandon_collection(
     let jobs = c.jobs;
     let id = parts::clip(request, t.at, t.len);
     let place = tables::locate(&image::JOB, image, jobs.at, jobs.count, id);
-    if place.end <= place.start {
+    let stored = tables::row(image, place);
+    if stored.len() == 0 {
         return parts::refuse(30);
     }
-    let stored = parts::clip(image, place.start, place.end - place.start);
     // the token is all of the action
     let shown = parts::clip(request, 27, request.len());
     if !text::same(stored, shown) {
@@ -170,5 +170,5 @@ pub fn abandon_collection(
     let ahead = parts::less(place.start, c.intents.at);
     let body = [0, c.intents.at, ahead, 0, place.end, image.len()];
     let told = PublicationOutcome::Applied;
-    next::emit(0, c2, image, request, &body, told, next, outcome)
+    next::emit(0, c2, image, request, &body, image, told, next, outcome)
 }

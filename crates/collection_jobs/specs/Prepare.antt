@@ -29,8 +29,6 @@ use Rattle.image.specs.declared.Contents.{Contents}
 use Rattle.machine.specs.Actions.{PrepareCollection, rejected, accepted, decide, CollectionPrepared}
 use Rattle.machine.specs.Machine.{act, prepare-collection, conflicts}
 use Rattle.machine.specs.Next.{collection-prepared, new-job}
-use Rattle.requests.specs.Cases.{write-parts}
-use Rattle.requests.specs.Outcome.{encodeOutcome}
 use Rattle.requests.specs.Meaning.{textOf, referenceOf, contextOf, faultsOf, positionOf, requestOf}
 use Rattle.requests.specs.declared.AuthorityContext.{AuthorityContext as ContextAt}
 use Rattle.requests.specs.declared.PublicationAuthorityFaults.{PublicationAuthorityFaults as FaultsAt}
@@ -40,8 +38,9 @@ use Rattle.next.specs.Head.{Small}
 use Rattle.next.specs.Shows.{Shown, Shows}
 use Rattle.next.specs.Call.{Ready, ruled}
 use Rattle.next.specs.Asked.{fields-here}
-use Rattle.next.specs.Outcome.{outcomeBytes}
-use Rattle.next.specs.declared.CollectionPrepared.{CollectionPrepared as CollectionPreparedAt}
+use Rattle.next.specs.AskedPlaces.{job-places}
+use Rattle.next.specs.Outcome.{Fits}
+use Rattle.requests.specs.declared.CollectionJobToken.{CollectionJobToken as JobTokenAt}
 use Rattle.next.specs.declared.PublicationOutcome.{PublicationOutcome}
 use Rattle.next.specs.Bounds.{request-small}
 use Rattle.next.specs.Kept.{run-rest, run-to, after-seam, root-here, root-size-here, small-here, before-jobs, jobs-seam}
@@ -57,15 +56,6 @@ use Rattle.collection_jobs.specs.Input.{inputStands, input-stands}
 use Rattle.collection_jobs.specs.Refusals.{malformedOf, or-else, prepareRefusal}
 use Rattle.collection_jobs.specs.Rules.{told, told-no, step, end, or-cond, else-cond}
 use Rattle.image.specs.CodeLists.{job-codes}
-
--- the token as it is told: the id, of so many bytes, and the rest stand in the request
-abbrev pub preparedAt : (id-length request-length : ℕ) → ContextAt → CollectionPreparedAt
-preparedAt n m y = record {
-  «job_id» = record { at = 27; len = n + 1 };
-  «owner_generation» = y .generation;
-  «authority_position» = y .position;
-  «from_floor» = record { at = n + 28; len = m };
-}
 
 -- ---- the machine's tests, as a number
 
@@ -231,6 +221,38 @@ module _ {x q : List ℕ} {c : Contents} {y : ContextAt} {g : FaultsAt} {a : Pre
     pub prepare-short : (length asked ≤ 64) × (length root ≤ 64)
     prepare-short = (pre .within .1 .0 .fits, pre .within .1 .1 .1 .1 .0 .fits)
 
+    -- ---- what is told
+
+    abbrev pub job-told : JobTokenAt
+    job-told = record {
+      «job_id» = a .«job_id»;
+      «owner_generation» = y .generation;
+      «authority_position» = y .position;
+      «frozen_floor» = a .«frozen_floor»;
+      «input_manifest» = a .«input_manifest»;
+      «destination_root» = a .«destination_root»;
+      «range_map_epoch» = a .«range_map_epoch»;
+      «expected_collected_through» = a .«expected_collected_through»;
+      «output_namespace» = a .«output_namespace»;
+    }
+
+    -- the runs that its places say are the request's fields, with generation and position after the id
+    pub job-fits : Fits x q (PublicationOutcome.CollectionPrepared job-told)
+    unfolding enc enc-text
+    job-fits =
+        let z = job-places pre in
+        let low : length q ≤ 8000 = subst (λ (l : List ℕ). length l ≤ 8000) (sym (pre .request-is)) (request-small _ (pre .within)) in
+        let p₁ : a .«job_id» .at - 1 ≡ 27 = omega (arith, z .0) in
+        let p₂ : a .«job_id» .len + 1 ≡ length asked + 1 = omega (arith, z .0, z .1) in
+        let p₃ : a .«job_id» .at + a .«job_id» .len ≡ length asked + 28 = omega (arith, z .1) in
+        let p₄ : a .«output_namespace» .at + a .«output_namespace» .len - (a .«job_id» .at + a .«job_id» .len) ≡ length rest = omega (arith, z .1, z .2, long) in
+        let e₁ : run q 27 (length asked + 1) ≡ enc-text asked = run-to q (enc-text asked) rest 27 (length asked + 1) here (omega arith) in
+        let e₂ : run q (length asked + 28) (length rest) ≡ rest = run-to q rest [] (length asked + 28) (length rest) (after-seam q (enc-text asked) rest 27 (length asked + 28) here (omega arith) ∙ sym (append-nil rest)) refl in (
+          (omega (arith, z .1, z .2, long, low), omega (arith, z .2, low)),
+          (λ i. gatherOf x q (1 ∷ p₁ i ∷ p₂ i ∷ 2 ∷ y .generation ∷ 8 ∷ 2 ∷ y .position .term ∷ 8 ∷ 2 ∷ y .position .index ∷ 8 ∷ 1 ∷ p₃ i ∷ p₄ i ∷ []))
+              ∙ (λ i. e₁ i ++ (digits 8 (y .generation) ++ (digits 8 (y .position .term) ++ (digits 8 (y .position .index) ++ append-nil (e₂ i) i)))) ∙ simp append-assoc,
+        )
+
     -- ---- what is written
 
     module _ (id : List ℕ) (clipped : id ≡ asked) where
@@ -242,12 +264,6 @@ module _ {x q : List ℕ} {c : Contents} {y : ContextAt} {g : FaultsAt} {a : Pre
           let e₁ : run q 27 (length id + 1) ≡ enc-text asked = run-to q (enc-text asked) rest 27 (length id + 1) here (omega arith) in
           let e₂ : run q (length id + 28) (length q) ≡ rest = run-rest q rest (length id + 28) (length q) (after-seam q (enc-text asked) rest 27 (length id + 28) here (omega arith)) (omega arith) in
           (λ i. e₁ i ++ (digits 8 (y .generation) ++ (digits 8 (y .position .term) ++ (digits 8 (y .position .index) ++ e₂ i)))) ∙ simp append-assoc
-
-      pub prepared-told : outcomeBytes x q (PublicationOutcome.CollectionPrepared (preparedAt (length id) (length q) y)) ≡ encodeOutcome (CollectionPrepared token)
-      unfolding encodeOutcome write-parts digits
-      prepared-told =
-          ap (λ (l : List ℕ). 5 ∷ (run q 27 (length id + 1) ++ (digits 8 (y .generation) ++ (digits 8 (y .position .term) ++ (digits 8 (y .position .index) ++ l))))) (append-nil (run q (length id + 28) (length q)))
-          ∙ ap (λ (l : List ℕ). 5 ∷ l) row-parts
 
       module _ (place : Place)
           (located : place ≡ placed x (seek (codesOf (64 ∷ 8 ∷ 8 ∷ 8 ∷ 8 ∷ 9 ∷ 128 ∷ 8 ∷ 64 ∷ 64 ∷ 8 ∷ 8 ∷ 128 ∷ [])) (c .jobs .count) id (drop (c .jobs .at) x)))

@@ -20,11 +20,10 @@ use image::Contents;
 use image::MaybeText;
 use image::Table;
 use image::TextAt;
-use next::CollectionPrepared;
 use next::PublicationOutcome;
-use next::Span;
 use parts::Applied;
 use requests::AuthorityContext;
+use requests::CollectionJobToken;
 use requests::PrepareCollection;
 use requests::PublicationAuthorityFaults;
 
@@ -70,10 +69,10 @@ pub fn input_stands(image: &[u8], roots: Table, root: &[u8], request: &[u8], at:
     ensures { λ r. ⌜ r ≡ inputStands (now (image .entry)) roots (now (root .entry)) (now (request .entry)) at ⌝ }
 {
     let manifest = [9u8, 128, 8, 64];
-    let place = tables::locate(&image::REFERENCE, image, roots.at, roots.count, root);
+    let row = tables::find(&image::REFERENCE, image, roots.at, roots.count, root);
     let end = tables::skip_record(&manifest, request, at);
     let shown = parts::clip(request, at, parts::less(end, at));
-    edits::row_holds(image, place, root.len() + 1, shown)
+    edits::row_holds(row, root.len() + 1, shown)
 }
 
 // One of two numbers.
@@ -273,15 +272,20 @@ pub fn prepare_collection(
         place.end,
         image.len(),
     ];
-    let position = x.position;
-    let told = PublicationOutcome::CollectionPrepared(CollectionPrepared {
-        job_id: Span { at: 27, len: first },
+    let authority_position = x.position;
+    let input_manifest = a.input_manifest;
+    let destination_root = a.destination_root;
+    let output_namespace = a.output_namespace;
+    let told = PublicationOutcome::CollectionPrepared(CollectionJobToken {
+        job_id: t,
         owner_generation: x.generation,
-        authority_position: position,
-        from_floor: Span {
-            at: rest,
-            len: request.len(),
-        },
+        authority_position,
+        frozen_floor: a.frozen_floor,
+        input_manifest,
+        destination_root,
+        range_map_epoch: a.range_map_epoch,
+        expected_collected_through: a.expected_collected_through,
+        output_namespace,
     });
-    next::emit(0, c2, image, request, &body, told, next, outcome)
+    next::emit(0, c2, image, request, &body, image, told, next, outcome)
 }

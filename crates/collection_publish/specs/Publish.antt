@@ -5,9 +5,9 @@ use mathlib.Core.Bool.{Bool, true, false, not, cond, _&&_}
 use mathlib.Core.List.{List, [], _∷_, _++_, append-assoc, append-nil}
 use mathlib.Core.Option.{Option, none, some}
 use mathlib.Core.Path.{_≡_, refl, sym, ap, _∙_, subst}
-use lib.Dec.{leb, eqb}
+use lib.Dec.{eqb}
 use lib.ListN.{length, take, drop, length-append, length-drop}
-use borrow.Author.Tests.{leb-true, leb-false}
+use borrow.Author.Tests.{eqb-true, eqb-false}
 use Rattle.text.specs.Same.{sameOf}
 use Rattle.parts.specs.Digits.{digits}
 use Rattle.parts.specs.DigitLaws.{length-digits}
@@ -32,8 +32,6 @@ use Rattle.image.specs.declared.Table.{Table}
 use Rattle.image.specs.declared.Contents.{Contents}
 use Rattle.machine.specs.Actions.{rejected, CollectionPublished}
 use Rattle.machine.specs.Next.{collection-published}
-use Rattle.requests.specs.Cases.{write-parts}
-use Rattle.requests.specs.Outcome.{encodeOutcome}
 use Rattle.requests.specs.Meaning.{receiptOf, keysOf, contextOf, faultsOf, positionOf, requestOf}
 use Rattle.requests.specs.declared.AuthorityContext.{AuthorityContext as ContextAt}
 use Rattle.requests.specs.declared.PublicationAuthorityFaults.{PublicationAuthorityFaults as FaultsAt}
@@ -43,9 +41,11 @@ use Rattle.next.specs.Head.{Small}
 use Rattle.next.specs.Shows.{Shown, Shows}
 use Rattle.next.specs.Call.{Ready, ruled}
 use Rattle.next.specs.Asked.{fields-here}
-use Rattle.next.specs.Outcome.{outcomeBytes}
+use Rattle.next.specs.AskedPlaces.{receipt-places}
+use Rattle.next.specs.Bounds.{request-small}
+use Rattle.next.specs.Outcome.{Fits}
 use Rattle.next.specs.declared.PublicationOutcome.{PublicationOutcome}
-use Rattle.next.specs.Kept.{run-rest, run-to, after-seam, root-here, root-size-here, small-here, before-jobs, tables-here}
+use Rattle.next.specs.Kept.{run-to, after-seam, root-here, root-size-here, small-here, before-jobs, tables-here}
 use Rattle.next.specs.Peeks.{skip-to}
 use Rattle.next.specs.Edit.{run-ahead, run-behind, past-place, start-is, end-is}
 use Rattle.reserved.specs.Located.{locatedIn, reserved-here}
@@ -55,12 +55,12 @@ use Rattle.publication.specs.References.{reference-long}
 use Rattle.publication.specs.Stays.{tables-bounded, request-bounded}
 use Rattle.collection.specs.After.{contentsAfter, after-shows}
 use Rattle.collection.specs.Tests.{root-stored}
-use Rattle.collection.specs.Jobs.{jobs-here, jobs-start, tables-low, job-found, no-job, some-job, job-same, job-gone}
+use Rattle.collection.specs.Jobs.{jobs-here, jobs-start, tables-low, job-found, no-job-row, a-job-row, job-gone}
 use Rattle.collection_jobs.specs.Input.{rootPlace, manifestEnd, manifest-end, manifest-run, root-found, input-stands}
 use Rattle.collection_jobs.specs.Refusals.{or-else}
 use Rattle.collection_jobs.specs.Rules.{told, told-no, else-cond}
 use Rattle.collection_jobs.specs.Prepare.{stale-tests}
-use Rattle.collection_publish.specs.Refusals.{sameManifest, tokenEnd, jobPlace, publishRefusal}
+use Rattle.collection_publish.specs.Refusals.{sameManifest, tokenEnd, jobPlace, jobRow, publishRefusal}
 use Rattle.collection_publish.specs.Rule.{rest-number, published, publish-tests}
 use Rattle.image.specs.CodeLists.{job-codes, permit-codes}
 
@@ -169,22 +169,22 @@ module _ {x q : List ℕ} {c : Contents} {y : ContextAt} {g : FaultsAt} {a : Rec
 
     -- ---- the code's number is the machine's
 
-    abbrev place : Place
-    place = jobPlace x (contentsOf s) id
+    abbrev stored : List ℕ
+    stored = jobRow x (contentsOf s) id
 
     abbrev missing : Bool
-    missing = leb (place .end) (place .start)
+    missing = eqb (length stored) 0
 
     abbrev equal : Bool
-    equal = sameOf (run x (place .start) (place .end - place .start)) (take (tokenEnd q - 27) (drop 27 q))
+    equal = sameOf stored (take (tokenEnd q - 27) (drop 27 q))
 
     no-job-here : missing ≡ true → lookup id (s .collection-jobs) ≡ none
-    no-job-here h = no-job s x (pre .image-is) (pre .formed) (contentsOf s) refl id place refl (leb-true _ _ h) .1
+    no-job-here h = no-job-row s x (pre .image-is) (pre .formed) (contentsOf s) refl id stored refl (eqb-true _ _ h)
 
     a-job-here : missing ≡ false → (v : CollectionJobToken) × (lookup id (s .collection-jobs) ≡ some v) × (equal ≡ job-eq v token)
     a-job-here h =
-        let z = some-job s x (pre .image-is) (pre .formed) (contentsOf s) refl id place refl (leb-false _ _ h) in
-        (z .0, z .2, job-same s x (pre .image-is) (pre .formed) (contentsOf s) refl id place refl (z .0) (z .1) (z .2) token (pre .within .1 .0) _ _ refl token-run)
+        let z = a-job-row s x (pre .image-is) (pre .formed) (contentsOf s) refl id stored refl (eqb-false _ _ h) in
+        (z .0, z .1, z .2 token (pre .within .1 .0) _ token-run)
 
     manifests : sameManifest q (tokenEnd q) (length id + 60) ≡ reference-eq output input
     unfolding sameManifest
@@ -241,9 +241,18 @@ module _ {x q : List ℕ} {c : Contents} {y : ContextAt} {g : FaultsAt} {a : Rec
 
     -- ---- what is written
 
-    pub published-told : outcomeBytes x q (PublicationOutcome.CollectionPublished (record { receipt = record { at = 27; len = length q } })) ≡ encodeOutcome (CollectionPublished receipt)
-    unfolding encodeOutcome write-parts digits enc
-    published-told = ap (λ (l : List ℕ). 6 ∷ l) (append-nil (run q 27 (length q)) ∙ run-rest q (token-bytes ++ (output-bytes ++ keys-bytes)) 27 (length q) here (omega arith))
+    -- the receipt is all of the request's fields
+    pub receipt-fits : Fits x q (PublicationOutcome.CollectionPublished a)
+    unfolding enc
+    receipt-fits =
+        let z = receipt-places pre in
+        let low : length q ≤ 8000 = subst (λ (l : List ℕ). length l ≤ 8000) (sym (pre .request-is)) (request-small _ (pre .within)) in
+        let p₁ : a .token .«job_id» .at - 1 ≡ 27 = omega (arith, z .0) in
+        let p₂ : a .«object_keys» .at + a .«object_keys» .len - (a .token .«job_id» .at - 1) ≡ length q - 27 = omega (arith, z .1, p₁) in (
+          omega (arith, z .1, low),
+          (λ i. run q (p₁ i) (p₂ i) ++ []) ∙ append-nil (run q 27 (length q - 27))
+              ∙ run-to q (token-bytes ++ (output-bytes ++ keys-bytes)) [] 27 (length q - 27) (here ∙ sym (append-nil (token-bytes ++ (output-bytes ++ keys-bytes)))) (sym (length-drop 27 q) ∙ ap length here),
+        )
 
     module _ (id′ root′ : List ℕ) (id-is : id′ ≡ id) (root-is : root′ ≡ root) (r-at : ℕ) (r-at-is : r-at ≡ manifestEnd q (length id′ + 60)) (start : ℕ) (start-at : start ≡ tokenEnd q)
         (stop : ℕ) (stop-is : stop ≡ manifestEnd q start) (size : ℕ) (size-is : size ≡ stop - start)

@@ -1,18 +1,17 @@
 -- The first refusal of a receipt, by the tests of the code; 0 where there is none.
-use Prim.Native.Nat.{ℕ, _+_, _-_, _≤_, _<_}
+use Prim.Native.Nat.{ℕ, _+_, _-_}
 use mathlib.Core.Bool.{Bool, true, false, not, cond, _&&_}
 use mathlib.Core.List.{List, [], _∷_}
 use mathlib.Core.Path.{_≡_, sym, ap, _∙_}
-use lib.Dec.{leb, eqb}
+use lib.Dec.{eqb}
 use lib.ListN.{length, take, drop}
-use borrow.Author.Tests.{eq-eqb, ne-eqb, le-leb, lt-leb}
+use borrow.Author.Tests.{eq-eqb, ne-eqb}
 use Rattle.text.specs.Same.{sameOf}
-use Rattle.parts.specs.Gather.{run}
 use Rattle.state.specs.Maps.{Text, any}
 use Rattle.state.specs.Records.{valid-receipt}
 use Rattle.fields.specs.Codes.{codesOf, skip}
 use Rattle.fields.specs.Walks.{placeOf}
-use Rattle.tables.specs.Seek.{seek, placed}
+use Rattle.tables.specs.Seek.{seek, placed, row-of}
 use Rattle.tables.specs.declared.Place.{Place}
 use Rattle.image.specs.declared.Contents.{Contents}
 use Rattle.requests.specs.Meaning.{textOf, keysOf, receiptOf}
@@ -39,19 +38,23 @@ tokenEnd q = placeOf q (skip 0 (codesOf (64 ∷ 8 ∷ 8 ∷ 8 ∷ 8 ∷ 9 ∷ 12
 abbrev pub jobPlace : List ℕ → Contents → Text → Place
 jobPlace x c id = placed x (seek (codesOf (64 ∷ 8 ∷ 8 ∷ 8 ∷ 8 ∷ 9 ∷ 128 ∷ 8 ∷ 64 ∷ 64 ∷ 8 ∷ 8 ∷ 128 ∷ [])) (c .jobs .count) id (drop (c .jobs .at) x))
 
-abbrev equalAt : List ℕ → List ℕ → Place → Bool
-equalAt x q p = sameOf (run x (p .start) (p .end - p .start)) (take (tokenEnd q - 27) (drop 27 q))
+-- its row, and whether that is the token
+abbrev pub jobRow : List ℕ → Contents → Text → List ℕ
+jobRow x c id = row-of (seek (codesOf (64 ∷ 8 ∷ 8 ∷ 8 ∷ 8 ∷ 9 ∷ 128 ∷ 8 ∷ 64 ∷ 64 ∷ 8 ∷ 8 ∷ 128 ∷ [])) (c .jobs .count) id (drop (c .jobs .at) x))
+
+abbrev equalTo : List ℕ → List ℕ → Bool
+equalTo q stored = sameOf stored (take (tokenEnd q - 27) (drop 27 q))
 
 abbrev first : Bool → Bool → Bool → Bool → Bool → ℕ
 first b₁ b₂ b₃ b₄ b₅ = cond (not b₁) 2 (cond b₂ 2 (cond b₃ 30 (cond (not b₄) 35 (cond (not b₅) 6 0))))
 
 module _ (x : List ℕ) (c : Contents) (q : List ℕ) (y : ContextAt) (a : ReceiptAt) where
-  abbrev receiptRefusalAt : Text → Place → ℕ
-  receiptRefusalAt id p =
-      first (valid-receipt (receiptOf q a)) (sameManifest q (tokenEnd q) (length id + 60)) (leb (p .end) (p .start)) (equalAt x q p) (eqb (a .token .«owner_generation») (y .generation))
+  abbrev receiptRefusalAt : Text → List ℕ → ℕ
+  receiptRefusalAt id stored =
+      first (valid-receipt (receiptOf q a)) (sameManifest q (tokenEnd q) (length id + 60)) (eqb (length stored) 0) (equalTo q stored) (eqb (a .token .«owner_generation») (y .generation))
 
   abbrev pub receiptRefusal : ℕ
-  receiptRefusal = receiptRefusalAt (textOf q (a .token .«job_id»)) (jobPlace x c (textOf q (a .token .«job_id»)))
+  receiptRefusal = receiptRefusalAt (textOf q (a .token .«job_id»)) (jobRow x c (textOf q (a .token .«job_id»)))
 
 abbrev then-tests : ℕ → ℕ → Bool → Bool → ℕ
 then-tests n m b₁ b₂ = or-else n (or-else m (cond b₁ 7 (cond b₂ 10 0)))
@@ -103,10 +106,10 @@ module _ (x : List ℕ) (c : Contents) (q : List ℕ) (y : ContextAt) (a : Recei
   B₂ = sameManifest q (tokenEnd q) (length id + 60)
 
   abbrev B₃ : Bool
-  B₃ = leb (jobPlace x c id .end) (jobPlace x c id .start)
+  B₃ = eqb (length (jobRow x c id)) 0
 
   abbrev B₄ : Bool
-  B₄ = equalAt x q (jobPlace x c id)
+  B₄ = equalTo q (jobRow x c id)
 
   abbrev B₅ : Bool
   B₅ = eqb (a .token .«owner_generation») (y .generation)
@@ -124,33 +127,31 @@ module _ (x : List ℕ) (c : Contents) (q : List ℕ) (y : ContextAt) (a : Recei
     pub at-same : b₂ ≡ true → 2 ≡ receiptRefusal x c q y a
     at-same h = first-2 (valid-receipt (receiptOf q a)) B₂ B₃ B₄ B₅ v₁ (b₂-is ∙ h)
 
-    module _ (h₂ : b₂ ≡ false) (p : Place) (p-is : p ≡ jobPlace x c t) where
-      place-is : jobPlace x c id ≡ p
-      place-is = ap (jobPlace x c) (sym t-is) ∙ sym p-is
+    module _ (h₂ : b₂ ≡ false) (stored : List ℕ) (stored-is : stored ≡ jobRow x c t) where
+      row-is : jobRow x c id ≡ stored
+      row-is = ap (jobRow x c) (sym t-is) ∙ sym stored-is
 
-      pub at-missing : p .end ≤ p .start → 30 ≡ receiptRefusal x c q y a
-      at-missing h = first-3 (valid-receipt (receiptOf q a)) B₂ B₃ B₄ B₅ v₁ (b₂-is ∙ h₂) (ap (λ (k : Place). leb (k .end) (k .start)) place-is ∙ le-leb _ _ h)
+      pub at-missing : length stored ≡ 0 → 30 ≡ receiptRefusal x c q y a
+      at-missing h = first-3 (valid-receipt (receiptOf q a)) B₂ B₃ B₄ B₅ v₁ (b₂-is ∙ h₂) (ap (λ (l : List ℕ). eqb (length l) 0) row-is ∙ eq-eqb _ _ h)
 
-      module _ (h₃ : p .start < p .end) (stored shown : List ℕ) (n : ℕ) (n-is : n ≡ end - 27) (stored-is : stored ≡ run x (p .start) (p .end - p .start)) (shown-is : shown ≡ take n (drop 27 q)) (b₄ : Bool)
-          (e₄ : b₄ ≡ sameOf stored shown)
-        where
-          v₃ : B₃ ≡ false
-          v₃ = ap (λ (k : Place). leb (k .end) (k .start)) place-is ∙ lt-leb _ _ h₃
+      module _ (h₃ : length stored ≡ 0 → ⊥) (shown : List ℕ) (n : ℕ) (n-is : n ≡ end - 27) (shown-is : shown ≡ take n (drop 27 q)) (b₄ : Bool) (e₄ : b₄ ≡ sameOf stored shown) where
+        v₃ : B₃ ≡ false
+        v₃ = ap (λ (l : List ℕ). eqb (length l) 0) row-is ∙ ne-eqb _ _ h₃
 
-          b₄-is : B₄ ≡ b₄
-          b₄-is =
-              ap (equalAt x q) place-is
-              ∙ (λ i. sameOf (sym stored-is i) (sym (shown-is ∙ ap (λ (k : ℕ). take k (drop 27 q)) (n-is ∙ ap (λ (k : ℕ). k - 27) end-is)) i)) ∙ sym e₄
+        b₄-is : B₄ ≡ b₄
+        b₄-is =
+            ap (equalTo q) row-is
+            ∙ ap (sameOf stored) (sym (shown-is ∙ ap (λ (k : ℕ). take k (drop 27 q)) (n-is ∙ ap (λ (k : ℕ). k - 27) end-is))) ∙ sym e₄
 
-          pub at-mismatch : not b₄ ≡ true → 35 ≡ receiptRefusal x c q y a
-          at-mismatch h = first-4 (valid-receipt (receiptOf q a)) B₂ B₃ B₄ B₅ v₁ (b₂-is ∙ h₂) v₃ (ap not b₄-is ∙ h)
+        pub at-mismatch : not b₄ ≡ true → 35 ≡ receiptRefusal x c q y a
+        at-mismatch h = first-4 (valid-receipt (receiptOf q a)) B₂ B₃ B₄ B₅ v₁ (b₂-is ∙ h₂) v₃ (ap not b₄-is ∙ h)
 
-          module _ (h₄ : not b₄ ≡ false) where
-            pub at-owner : (a .token .«owner_generation» ≡ y .generation → ⊥) → 6 ≡ receiptRefusal x c q y a
-            at-owner h = first-5 (valid-receipt (receiptOf q a)) B₂ B₃ B₄ B₅ v₁ (b₂-is ∙ h₂) v₃ (ap not b₄-is ∙ h₄) (ne-eqb _ _ h)
+        module _ (h₄ : not b₄ ≡ false) where
+          pub at-owner : (a .token .«owner_generation» ≡ y .generation → ⊥) → 6 ≡ receiptRefusal x c q y a
+          at-owner h = first-5 (valid-receipt (receiptOf q a)) B₂ B₃ B₄ B₅ v₁ (b₂-is ∙ h₂) v₃ (ap not b₄-is ∙ h₄) (ne-eqb _ _ h)
 
-            pub at-job : a .token .«owner_generation» ≡ y .generation → 0 ≡ receiptRefusal x c q y a
-            at-job h = first-0 (valid-receipt (receiptOf q a)) B₂ B₃ B₄ B₅ v₁ (b₂-is ∙ h₂) v₃ (ap not b₄-is ∙ h₄) (eq-eqb _ _ h)
+          pub at-job : a .token .«owner_generation» ≡ y .generation → 0 ≡ receiptRefusal x c q y a
+          at-job h = first-0 (valid-receipt (receiptOf q a)) B₂ B₃ B₄ B₅ v₁ (b₂-is ∙ h₂) v₃ (ap not b₄-is ∙ h₄) (eq-eqb _ _ h)
 
 module _ (n m : ℕ) (b₁ b₂ : Bool) where
   then-1 : (n ≡ 0 → ⊥) → n ≡ then-tests n m b₁ b₂

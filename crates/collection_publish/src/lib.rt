@@ -10,9 +10,7 @@ ghost use Rattle.requests.specs.declared.PublicationAction.{PublicationAction};
 ghost use Rattle.next.specs.Call.{Ready};
 ghost use Rattle.collection_publish.specs.Refusals.{sameManifest, receiptRefusal, publishRefusal};
 use image::Contents;
-use next::CollectionPublished;
 use next::PublicationOutcome;
-use next::Span;
 use parts::Applied;
 use requests::AuthorityContext;
 use requests::CollectionReceipt;
@@ -54,11 +52,10 @@ fn receipt_refusal(
     if same_manifest(request, end, id.len() + 60) {
         return 2;
     }
-    let place = tables::locate(&image::JOB, image, jobs.at, jobs.count, id);
-    if place.end <= place.start {
+    let stored = tables::find(&image::JOB, image, jobs.at, jobs.count, id);
+    if stored.len() == 0 {
         return 30;
     }
-    let stored = parts::clip(image, place.start, place.end - place.start);
     if !text::same(stored, parts::clip(request, 27, parts::less(end, 27))) {
         return 35;
     }
@@ -187,11 +184,6 @@ pub fn publish_collection(
         gone.end,
         image.len(),
     ];
-    let told = PublicationOutcome::CollectionPublished(CollectionPublished {
-        receipt: Span {
-            at: 27,
-            len: request.len(),
-        },
-    });
-    next::emit(0, c2, image, request, &body, told, next, outcome)
+    let told = PublicationOutcome::CollectionPublished(a);
+    next::emit(0, c2, image, request, &body, image, told, next, outcome)
 }

@@ -23,21 +23,20 @@ use Rattle.image.specs.ImageParts.{from-intents, intents-at, leases-at, length-
 use Rattle.image.specs.declared.Contents.{Contents}
 use Rattle.machine.specs.Actions.{rejected, accepted, DeleteReserved}
 use Rattle.machine.specs.Next.{reserved}
-use Rattle.requests.specs.Cases.{write-parts}
-use Rattle.requests.specs.Outcome.{encodeOutcome}
 use Rattle.requests.specs.Meaning.{textOf, identityOf, contextOf, faultsOf, requestOf}
 use Rattle.requests.specs.declared.AuthorityContext.{AuthorityContext}
 use Rattle.requests.specs.declared.PublicationAuthorityFaults.{PublicationAuthorityFaults}
 use Rattle.requests.specs.declared.ReserveDelete.{ReserveDelete}
 use Rattle.requests.specs.declared.PublicationAction.{PublicationAction}
 use Rattle.next.specs.Asked.{fields-here}
+use Rattle.next.specs.AskedPlaces.{permit-places}
 use Rattle.next.specs.Bounds.{request-small}
 use Rattle.next.specs.Call.{Ready, ruled}
 use Rattle.next.specs.Head.{Small}
 use Rattle.next.specs.Kept.{small-here, run-to, after-seam}
-use Rattle.next.specs.Outcome.{outcomeBytes}
+use Rattle.next.specs.Outcome.{Fits}
 use Rattle.next.specs.Shows.{Shows}
-use Rattle.next.specs.declared.DeleteReserved.{DeleteReserved as DeleteReservedAt}
+use Rattle.requests.specs.declared.DeletePermit.{DeletePermit as PermitAt}
 use Rattle.next.specs.declared.PublicationOutcome.{PublicationOutcome}
 use Rattle.scans.specs.Scans.{namesAt}
 use Rattle.scans.specs.ScanLaws.{intents-name, leases-name, jobs-use}
@@ -46,19 +45,6 @@ use Rattle.deletion.specs.Tests.{firstOf, testsOf, reserveTests}
 use Rattle.deletion.specs.Reservations.{Located, located, none-there, some-there, size-more, count-more, tables-more, reservations-show, reservations-small}
 use Rattle.deletion.specs.Reserve.{state-tests, new, reserve-refused, reserve-exists, reserve-taken}
 use Rattle.image.specs.CodeLists.{intent-codes, lease-codes}
-
--- the permit as it is told
-abbrev pub reservedAt : (start size plan-size : ℕ) → AuthorityContext → DeleteReservedAt
-reservedAt start size plan-size u = record {
-  «key_and_identity» = record { at = start; len = size };
-  «plan_id» = record { at = 27; len = plan-size };
-  «owner_generation» = u .generation;
-  «authority_position» = u .position;
-}
-
-tag-one : (r : List ℕ) → digits 1 1 ++ r ≡ 1 ∷ r
-unfolding digits
-tag-one r = refl
 
 module _ {x : List ℕ} {c : Contents} {q : List ℕ} {u : AuthorityContext} {g : PublicationAuthorityFaults} {a : ReserveDelete}
     (ready : Ready x c q (record { context = u; faults = g; action = PublicationAction.ReserveDelete a }))
@@ -74,6 +60,9 @@ module _ {x : List ℕ} {c : Contents} {q : List ℕ} {u : AuthorityContext} {g 
 
     abbrev pub permit-made : DeletePermit
     permit-made = new (ready .state) plan-asked (a .«mark_epoch») key-asked identity-asked (contextOf u) (faultsOf g)
+
+    abbrev pub permit-told : PermitAt
+    permit-told = record { key = a .key; identity = a .identity; «plan_id» = a .«plan_id»; «owner_generation» = u .generation; «authority_position» = u .position }
 
     -- the tests over bytes are those over the state
     named-by-intents : any (namesAt (codesOf (64 ∷ 8 ∷ [])) key-asked) (rows-at (codesOf (64 ∷ 8 ∷ 10 ∷ 9 ∷ 128 ∷ 8 ∷ 64 ∷ 64 ∷ 15 ∷ 9 ∷ 128 ∷ 8 ∷ 64 ∷ [])) (length (ready .state .intents)) (drop (intents-at (ready .state)) x))
@@ -182,9 +171,18 @@ module _ {x : List ℕ} {c : Contents} {q : List ℕ} {u : AuthorityContext} {g 
           let l₅ = length-append w [] in
           omega (arith, rest-length, plan-length, length-digits 8 (u .generation), length-digits 8 (u .position .term), length-digits 8 (u .position .index))
 
-      pub told-made : outcomeBytes x q (PublicationOutcome.DeleteReserved (reservedAt start size plan-size u)) ≡ encodeOutcome (DeleteReserved permit-made)
-      unfolding encodeOutcome write-parts
-      told-made = ap (λ (m : List ℕ). digits 1 1 ++ m) (made [] ∙ append-nil (enc permit (permit-parts permit-made))) ∙ tag-one (enc permit (permit-parts permit-made))
+      -- the runs that the permit's places say are these
+      pub permit-fits : Fits x q (PublicationOutcome.DeleteReserved permit-told)
+      permit-fits =
+          let z = permit-places ready in
+          let p₁ : a .key .at - 1 ≡ start = omega (arith, z .2, start-is, plan-size-is, ap length plan-is) in
+          let p₂ : a .identity .sha256 .at + a .identity .sha256 .len - (a .key .at - 1) ≡ size = omega (arith, z .3, p₁, size-is) in
+          let p₃ : a .«plan_id» .at - 1 ≡ 27 = omega (arith, z .0) in
+          let p₄ : a .«plan_id» .len + 1 ≡ plan-size = omega (arith, z .1, plan-size-is, ap length plan-is) in (
+            (omega (arith, z .3, request-short), omega (arith, z .1, plan-short plan plan-is, ap length plan-is)),
+            (λ i. gatherOf x q (1 ∷ p₁ i ∷ p₂ i ∷ 1 ∷ p₃ i ∷ p₄ i ∷ 2 ∷ u .generation ∷ 8 ∷ 2 ∷ u .position .term ∷ 8 ∷ 2 ∷ u .position .index ∷ 8 ∷ []))
+                ∙ made [] ∙ append-nil (enc permit (permit-parts permit-made)),
+          )
 
       module _ (k : Text) (place : Place) (key-is : k ≡ key-asked)
           (found : place ≡ placed x (seek (codesOf (128 ∷ 12 ∷ 64 ∷ 12 ∷ 64 ∷ 8 ∷ 64 ∷ 64 ∷ 8 ∷ 8 ∷ 8 ∷ [])) (c .reservations .count) k (drop (c .reservations .at) x)))

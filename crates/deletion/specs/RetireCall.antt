@@ -7,14 +7,14 @@ use mathlib.Core.Option.{some}
 use mathlib.Core.Path.{_≡_, sym, ap, _∙_, subst}
 use lib.ListN.{length, take, drop, length-drop}
 use lib.Seq.{take-all}
-use Rattle.parts.specs.Gather.{gatherOf}
+use Rattle.parts.specs.Gather.{gatherOf, run}
 use Rattle.state.specs.Maps.{Text, _⟼_, lookup}
 use Rattle.state.specs.Places.{at}
 use Rattle.state.specs.Records.{DeletePermit}
 use Rattle.state.specs.Setters.{set-revision}
 use Rattle.fields.specs.Format.{enc}
 use Rattle.fields.specs.Codes.{codesOf}
-use Rattle.tables.specs.Seek.{seek, placed}
+use Rattle.tables.specs.Seek.{Seen, seek, placed}
 use Rattle.tables.specs.declared.Place.{Place}
 use Rattle.image.specs.Shapes.{permit, permit-parts}
 use Rattle.image.specs.ImageParts.{from-intents, reservations-bytes}
@@ -30,6 +30,7 @@ use Rattle.requests.specs.declared.PublicationAction.{PublicationAction}
 use Rattle.next.specs.Asked.{fields-here}
 use Rattle.next.specs.Call.{Ready, ruled}
 use Rattle.next.specs.Head.{Small}
+use Rattle.next.specs.Edit.{row-none, row-some, row-size}
 use Rattle.next.specs.Kept.{small-here}
 use Rattle.next.specs.Shows.{Shows}
 use Rattle.deletion.specs.Permits.{matchesOf, withReservations}
@@ -47,6 +48,20 @@ module _ {x : List ℕ} {c : Contents} {q : List ℕ} {u : AuthorityContext} {g 
     place-found : Located (ready .state) x q (ready .image-is) (ready .formed) (shown-permit .key) place
     place-found = located (ready .state) x q (ready .image-is) (ready .formed) (shown-permit .key) place c (ready .opened) k key-is found
 
+    -- the row there: none, or one, and how long it is
+    module _ {row : List ℕ} (row-is : row ≡ run x (place .start) (place .end - place .start)) where
+      abbrev sought : Seen
+      sought = seek (codesOf (128 ∷ 12 ∷ 64 ∷ 12 ∷ 64 ∷ 8 ∷ 64 ∷ 64 ∷ 8 ∷ 8 ∷ 8 ∷ [])) (c .reservations .count) k (drop (c .reservations .at) x)
+
+      pub no-row : length row ≡ 0 → place .end ≤ place .start
+      no-row = row-none x sought place found row row-is
+
+      pub a-row : (length row ≡ 0 → ⊥) → place .start < place .end
+      a-row = row-some x sought place found row row-is
+
+      pub row-long : length row ≡ place .end - place .start
+      row-long = row-size x sought place found row row-is
+
     pub missing : place .end ≤ place .start → ruled ready ≡ rejected 13
     missing h = retire-missing (ready .state) shown-permit (contextOf u) (faultsOf g) (none-there (ready .state) x q (ready .image-is) (ready .formed) (shown-permit .key) place place-found h .1)
 
@@ -57,7 +72,7 @@ module _ {x : List ℕ} {c : Contents} {q : List ℕ} {u : AuthorityContext} {g 
       pub crossed : (a .«owner_generation» ≡ u .generation → ⊥) → ruled ready ≡ rejected 14
       crossed d = retire-crossed (ready .state) shown-permit (contextOf u) (faultsOf g) (there .0) (there .2) d
 
-      module _ (same-generation : a .«owner_generation» ≡ u .generation) (row shown plan : List ℕ) (row-is : row ≡ take (place .end - place .start) (drop (place .start) x))
+      module _ (same-generation : a .«owner_generation» ≡ u .generation) (row shown plan : List ℕ) (row-is : row ≡ run x (place .start) (place .end - place .start))
           (shown-is : shown ≡ take (length q) (drop 27 q)) (plan-is : plan ≡ textOf q (a .«plan_id»)) (b : Bool) (told : b ≡ matchesOf (g .«retire_by_plan_key_only») row shown plan k)
         where
           matched-is : matched (g .«retire_by_plan_key_only») (there .0) shown-permit ≡ b

@@ -12,9 +12,7 @@ ghost use Rattle.deletion.specs.Tests.{firstOf, reserveTests};
 use image::Contents;
 use image::Scalars;
 use image::Table;
-use next::DeleteReserved;
 use next::PublicationOutcome;
-use next::Span;
 use parts::Applied;
 use requests::AuthorityContext;
 use requests::AuthorityPosition;
@@ -171,14 +169,13 @@ pub fn retire_delete(
     let key = parts::clip(request, k.at, k.len);
     let table = c.reservations;
     let place = tables::locate(&image::PERMIT, image, table.at, table.count, key);
-    if place.end <= place.start {
+    let row = tables::row(image, place);
+    if row.len() == 0 {
         return parts::refuse(13);
     }
     if a.owner_generation != x.generation {
         return parts::refuse(14);
     }
-    let size = place.end - place.start;
-    let row = parts::clip(image, place.start, size);
     let shown = parts::clip(request, 27, request.len());
     let p = a.plan_id;
     let plan = parts::clip(request, p.at, p.len);
@@ -186,13 +183,13 @@ pub fn retire_delete(
         return parts::refuse(15);
     }
     let position = x.position;
-    let left = parts::less(table.size, size);
+    let left = parts::less(table.size, row.len());
     let count = parts::less(table.count, 1);
     let c2 = with_reservations(c, position, left, count);
     let ahead = parts::less(place.start, c.intents.at);
     let body = [0, c.intents.at, ahead, 0, place.end, image.len()];
     let told = PublicationOutcome::Applied;
-    next::emit(0, c2, image, request, &body, told, next, outcome)
+    next::emit(0, c2, image, request, &body, image, told, next, outcome)
 }
 
 pub fn reserve_delete(
@@ -256,17 +253,13 @@ pub fn reserve_delete(
         place.end,
         image.len(),
     ];
-    let told = PublicationOutcome::DeleteReserved(DeleteReserved {
-        key_and_identity: Span {
-            at: start,
-            len: size,
-        },
-        plan_id: Span {
-            at: 27,
-            len: plan_size,
-        },
+    let identity = a.identity;
+    let told = PublicationOutcome::DeleteReserved(DeletePermit {
+        key: k,
+        identity,
+        plan_id: p,
         owner_generation: x.generation,
         authority_position: position,
     });
-    next::emit(0, c2, image, request, &body, told, next, outcome)
+    next::emit(0, c2, image, request, &body, image, told, next, outcome)
 }

@@ -1,9 +1,8 @@
 // A change by id: what a stored row holds, and the tables and contents after the change.
 ghost use mathlib.Core.Path.{_≡_};
-ghost use Prim.Native.Nat.{_+_, _-_, _≤_};
+ghost use Prim.Native.Nat.{_≤_};
 ghost use lib.ListN.{drop};
 ghost use Rattle.text.specs.Same.{sameOf};
-ghost use Rattle.parts.specs.Gather.{run};
 ghost use Rattle.edits.specs.Changes.{afterInsert, afterRemove, afterChange};
 use image::Contents;
 use image::Scalars;
@@ -11,11 +10,10 @@ use image::Table;
 use requests::AuthorityPosition;
 use tables::Place;
 
-// Whether the row at a place holds just these bytes after its first ones.
-pub fn row_holds(s: &[u8], p: Place, first: usize, bytes: &[u8]) -> bool
-    ensures { λ r. ⌜ r ≡ sameOf (drop first (run (now (s .entry)) (p .start) (p .end - p .start))) (now (bytes .entry)) ⌝ }
+// Whether a row holds just these bytes after its first ones.
+pub fn row_holds(row: &[u8], first: usize, bytes: &[u8]) -> bool
+    ensures { λ r. ⌜ r ≡ sameOf (drop first (now (row .entry))) (now (bytes .entry)) ⌝ }
 {
-    let row = parts::clip(s, p.start, parts::less(p.end, p.start));
     text::same(parts::clip(row, first, row.len()), bytes)
 }
 

@@ -116,7 +116,7 @@ pub fn observe_committed_frontier(
     let c2 = next::with_scalars(c, m);
     let body = [0, c.intents.at, image.len()];
     let told = PublicationOutcome::Applied;
-    next::emit(0, c2, image, request, &body, told, next, outcome)
+    next::emit(0, c2, image, request, &body, image, told, next, outcome)
 }
 
 pub fn set_retention_window(
@@ -161,7 +161,7 @@ pub fn set_retention_window(
     let c2 = next::with_scalars(c, m);
     let body = [0, c.intents.at, image.len()];
     let told = PublicationOutcome::Applied;
-    next::emit(0, c2, image, request, &body, told, next, outcome)
+    next::emit(0, c2, image, request, &body, image, told, next, outcome)
 }
 
 pub fn observe_range_map_epoch(
@@ -204,5 +204,5 @@ pub fn observe_range_map_epoch(
     let c2 = next::with_scalars(c, m);
     let body = [0, c.intents.at, image.len()];
     let told = PublicationOutcome::Applied;
-    next::emit(0, c2, image, request, &body, told, next, outcome)
+    next::emit(0, c2, image, request, &body, image, told, next, outcome)
 }

@@ -10,6 +10,7 @@ pub mod SameBytes
 pub mod Tables
 pub mod ImageParts
 pub mod Edges
+pub mod Computes
 pub mod Limits
 pub mod Opened
 pub mod Stored

@@ -9,13 +9,11 @@ use lib.Seq.{take-all}
 use borrow.Author.Tests.{eq-eqb, ne-eqb}
 use Rattle.text.specs.Same.{sameOf}
 use Rattle.parts.specs.Digits.{value}
-use Rattle.parts.specs.Gather.{run}
 use Rattle.state.specs.Maps.{Text, any, is-empty}
 use Rattle.fields.specs.Codes.{Code, codes, codesOf, skip}
 use Rattle.fields.specs.Rows.{text-here}
 use Rattle.fields.specs.Walks.{Rest, placeOf, rest-place}
 use Rattle.tables.specs.Skips.{skip-rest}
-use Rattle.tables.specs.declared.Place.{Place}
 use Rattle.image.specs.Shapes.{permit}
 use Rattle.reserved.specs.Located.{locatedIn}
 use Rattle.intents.specs.StoredIntent.{from-manifest, from-root, from-prior, matchesIn, statusIn}
@@ -39,10 +37,9 @@ left-after cs s r p e h =
 pub not-left-out : (ignore b t u : Bool) → ignore ≡ false → b ≡ not t → t ≡ u → b ≡ (not ignore && not u)
 not-left-out ignore b t u h e k = e ∙ ap not k ∙ ap (λ (i : Bool). not i && not u) (sym h)
 
-pub row-of-intent : (x : List ℕ) (p : Place) (first n : ℕ) (row rest : List ℕ) → n ≡ p .end - p .start → row ≡ take n (drop (p .start) x) → rest ≡ take (length row) (drop first row)
-    → rest ≡ drop first (run x (p .start) (p .end - p .start))
-row-of-intent x p first n row rest en er h =
-    h ∙ take-all (length row) (drop first row) (omega (arith, length-drop first row)) ∙ ap (drop first) (er ∙ ap (λ (k : ℕ). take k (drop (p .start) x)) en)
+-- what a row holds after its first bytes
+pub after-first : (first : ℕ) (row rest : List ℕ) → rest ≡ take (length row) (drop first row) → rest ≡ drop first row
+after-first first row rest h = h ∙ take-all (length row) (drop first row) (omega (arith, length-drop first row))
 
 pub status-at : (row row′ manifest manifest′ root prior key key′ : List ℕ) (g : ℕ) (w a : Bool) (r : ℕ) → r ≡ statusIn row manifest root prior key g w a → row ≡ row′ → manifest ≡ manifest′ → key ≡ key′
     → r ≡ statusIn row′ manifest′ root prior key′ g w a

@@ -140,9 +140,9 @@ module _ {x : List ℕ} {c : Contents} {q : List ℕ} {ctx : ContextAt} {f : Fau
 
           -- ---- the tests
 
-          pub publish-status : (n : ℕ) → n ≡ statusIn (drop (length id + 1) (run x (p .start) (p .end - p .start))) (run q last (length q)) dest given (manifest .key) (ctx .generation) (f .«publish_without_intent») (f .«allow_cross_generation_intent»)
+          pub publish-status : (held-row : List ℕ) → held-row ≡ run x (p .start) (p .end - p .start) → (n : ℕ) → n ≡ statusIn (drop (length id + 1) held-row) (run q last (length q)) dest given (manifest .key) (ctx .generation) (f .«publish_without_intent») (f .«allow_cross_generation_intent»)
               → n ≡ intent-refusal st name root expected manifest (contextOf ctx) (faultsOf f)
-          publish-status n h =
+          publish-status held-row r n h =
               let z : drop (length name + 1) (run x (p .start) (p .end - p .start)) ≡ held-intent (lookup name (st .intents)) =
               ap (drop (length name + 1))
               (run-row (codes (row short prepared)) intent-row x (intents-at st) (intents-at st) [] (st .intents) (from-roots st) (intents-here ready) (intents-start ready) (intents-low ready)
@@ -150,20 +150,20 @@ module _ {x : List ℕ} {c : Contents} {q : List ℕ} {ctx : ContextAt} {f : Fau
               ∙ intent-held name (st .intents) (intents-stored st (ready .formed) .ascending) in
               let y : run q last (length q) ≡ held (some manifest) = last-here q option-at expected manifest after-root last last-is in
               h
-              ∙ ap (λ (k : Text). statusIn (drop (length k + 1) (run x (p .start) (p .end - p .start))) (run q last (length q)) dest given (manifest .key) (ctx .generation) (f .«publish_without_intent») (f .«allow_cross_generation_intent»)) e
+              ∙ (λ i. statusIn (drop (length (e i) + 1) (r i)) (run q last (length q)) dest given (manifest .key) (ctx .generation) (f .«publish_without_intent») (f .«allow_cross_generation_intent»))
               ∙ (λ i. statusIn (z i) (y i) (ed i) (given-is i) (manifest .key) (ctx .generation) (f .«publish_without_intent») (f .«allow_cross_generation_intent»))
               ∙ status-is (lookup name (st .intents)) manifest root expected (ctx .generation) (f .«publish_without_intent») (f .«allow_cross_generation_intent»)
               (intent-within (st .intents) (intents-stored st (ready .formed)) name) (ready .within .1 .1 .1 .1) (ready .within .1 .1 .1 .0)
 
-          pub publish-compares : (b : Bool) → b ≡ (not (f .«ignore_root_compare») && not (sameOf (drop (length dest + 1) (run x (o .start) (o .end - o .start))) (drop 1 given)))
+          pub publish-compares : (held-row : List ℕ) → held-row ≡ run x (o .start) (o .end - o .start) → (b : Bool) → b ≡ (not (f .«ignore_root_compare») && not (sameOf (drop (length dest + 1) held-row) (drop 1 given)))
               → b ≡ (not (f .«ignore_root_compare») && not (same-option reference-eq (lookup root (st .roots)) expected))
-          publish-compares b h =
+          publish-compares held-row r b h =
               let z : drop (length root + 1) (run x (o .start) (o .end - o .start)) ≡ held (lookup root (st .roots)) =
               ap (drop (length root + 1))
               (run-row (codes (row short reference)) reference-row x (p .end) (roots-at st) behind-it (st .roots) (from-pins st) intents-cut roots-start roots-low (roots-stored st (ready .formed) .hopped) root o root-at)
               ∙ row-held root (st .roots) (roots-stored st (ready .formed) .ascending) in
               h
-              ∙ ap (λ (k : Text). not (f .«ignore_root_compare») && not (sameOf (drop (length k + 1) (run x (o .start) (o .end - o .start))) (drop 1 given))) ed
+              ∙ (λ i. not (f .«ignore_root_compare») && not (sameOf (drop (length (ed i) + 1) (r i)) (drop 1 given)))
               ∙ (λ i. not (f .«ignore_root_compare») && not (sameOf (z i) ((ap (drop 1) given-is ∙ option-held expected) i)))
               ∙ ap (λ (t : Bool). not (f .«ignore_root_compare») && not t)
               (same-held (lookup root (st .roots)) expected (held-within (st .roots) (roots-stored st (ready .formed)) root) (ready .within .1 .1 .1 .0))

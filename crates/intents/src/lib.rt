@@ -1,7 +1,6 @@
 // Publications: prepare and publish.
 ghost use mathlib.Core.Path.{_≡_};
 ghost use mathlib.Core.Bool.{not, _&&_};
-ghost use Prim.Native.Nat.{_-_};
 ghost use lib.ListN.{length, drop};
 ghost use Rattle.text.specs.Same.{sameOf};
 ghost use Rattle.state.specs.Maps.{any, is-empty};
@@ -26,7 +25,6 @@ use requests::AuthorityContext;
 use requests::Prepare;
 use requests::PublicationAuthorityFaults;
 use requests::Publish;
-use tables::Place;
 
 // The first fields of an intent after its id, a reference, and a name.
 const OWNER_AND_KEYS: [u8; 2] = [8, 10];
@@ -119,7 +117,7 @@ pub fn prepare(
         image.len(),
     ];
     let told = PublicationOutcome::Applied;
-    next::emit(0, c2, image, request, &body, told, next, outcome)
+    next::emit(0, c2, image, request, &body, image, told, next, outcome)
 }
 
 // What is left of a record after its first fields.
@@ -179,10 +177,9 @@ fn intent_status(
     6
 }
 
-// The same for the row at a place of the image, and a manifest that stands at a place of the request.
+// The same for a whole row, of which the first bytes are its id, and a manifest that stands at a place of the request.
 fn stored_status(
-    image: &[u8],
-    p: Place,
+    row: &[u8],
     first: usize,
     request: &[u8],
     manifest: usize,
@@ -192,9 +189,8 @@ fn stored_status(
     generation: u64,
     f: PublicationAuthorityFaults,
 ) -> u32
-    ensures { λ r. ⌜ r ≡ statusIn (drop first (run (now (image .entry)) (p .start) (p .end - p .start))) (run (now (request .entry)) manifest (length (now (request .entry)))) (now (root .entry)) (now (prior .entry)) (textOf (now (request .entry)) key) generation (f .«publish_without_intent») (f .«allow_cross_generation_intent») ⌝ }
+    ensures { λ r. ⌜ r ≡ statusIn (drop first (now (row .entry))) (run (now (request .entry)) manifest (length (now (request .entry)))) (now (root .entry)) (now (prior .entry)) (textOf (now (request .entry)) key) generation (f .«publish_without_intent») (f .«allow_cross_generation_intent») ⌝ }
 {
-    let row = parts::clip(image, p.start, parts::less(p.end, p.start));
     let rest = parts::clip(row, first, row.len());
     let shown = parts::clip(request, manifest, request.len());
     let named = parts::clip(request, key.at, key.len);
@@ -210,14 +206,14 @@ fn stored_status(
     )
 }
 
-// Whether the root that is stored at a place is another than the one expected; a fault flag leaves the test out.
-fn root_differs(ignore: bool, image: &[u8], p: Place, first: usize, prior: &[u8]) -> bool
-    ensures { λ r. ⌜ r ≡ (not ignore && not (sameOf (drop first (run (now (image .entry)) (p .start) (p .end - p .start))) (drop 1 (now (prior .entry))))) ⌝ }
+// Whether a stored root is another than the one expected; a fault flag leaves the test out.
+fn root_differs(ignore: bool, row: &[u8], first: usize, prior: &[u8]) -> bool
+    ensures { λ r. ⌜ r ≡ (not ignore && not (sameOf (drop first (now (row .entry))) (drop 1 (now (prior .entry))))) ⌝ }
 {
     if ignore {
         return false;
     }
-    !publication::is_expected(image, p, first, prior)
+    !publication::is_expected(row, first, prior)
 }
 
 // Whether a publication names itself, its root and a manifest.
@@ -271,8 +267,7 @@ pub fn publish(
     let p = tables::locate(&image::INTENT, image, intents.at, intents.count, id);
     let o = tables::locate(&image::REFERENCE, image, roots.at, roots.count, root);
     let status = stored_status(
-        image,
-        p,
+        tables::row(image, p),
         first,
         request,
         m,
@@ -285,7 +280,7 @@ pub fn publish(
     if status != 0 {
         return parts::refuse(status);
     }
-    if root_differs(f.ignore_root_compare, image, o, second, prior) {
+    if root_differs(f.ignore_root_compare, tables::row(image, o), second, prior) {
         return parts::refuse(7);
     }
     let bytes = second + parts::less(request.len(), m);
@@ -314,5 +309,5 @@ pub fn publish(
         image.len(),
     ];
     let told = PublicationOutcome::Applied;
-    next::emit(0, c2, image, request, &body, told, next, outcome)
+    next::emit(0, c2, image, request, &body, image, told, next, outcome)
 }

@@ -8,7 +8,6 @@ use mathlib.Core.Path.{_≡_, refl, sym, ap, _∙_, subst}
 use lib.ListN.{length, drop}
 use lib.Dec.{eqb, leb, ltb}
 use borrow.Author.Tests.{lt-ltb, le-ltb, le-leb, lt-leb}
-use Rattle.parts.specs.Digits.{digits}
 use Rattle.parts.specs.Gather.{gatherOf}
 use Rattle.state.specs.Maps.{Text, is-empty, is-some, has-key, insert}
 use Rattle.state.specs.MapLaws.{no-way}
@@ -28,20 +27,20 @@ use Rattle.image.specs.declared.MaybeNumber.{MaybeNumber}
 use Rattle.machine.specs.Actions.{AcquireLease, Transition, rejected, accepted, Rule, refuse-or, accept, decide, LeaseAcquired}
 use Rattle.machine.specs.Machine.{act, acquire-lease}
 use Rattle.machine.specs.Next.{up, oldest, acquired, new-lease}
-use Rattle.requests.specs.Cases.{write-parts}
 use Rattle.requests.specs.Request.{acquire}
 use Rattle.requests.specs.Outcome.{encodeOutcome}
-use Rattle.requests.specs.Meaning.{textOf, positionOf, contextOf, faultsOf, closureOf, requestOf}
+use Rattle.requests.specs.Meaning.{textOf, positionOf, contextOf, faultsOf, closureOf, leaseTokenOf, requestOf}
 use Rattle.requests.specs.declared.PublicationAction.{PublicationAction}
 use Rattle.requests.specs.declared.AcquireLease.{AcquireLease as AcquireLeaseAt}
 use Rattle.requests.specs.declared.AuthorityContext.{AuthorityContext as ContextAt}
 use Rattle.requests.specs.declared.PublicationAuthorityFaults.{PublicationAuthorityFaults as FaultsAt}
 use Rattle.next.specs.Asked.{fields-here}
+use Rattle.next.specs.AskedPlaces.{lease-places}
 use Rattle.next.specs.Bounds.{request-small}
 use Rattle.next.specs.Head.{Small}
 use Rattle.next.specs.Shows.{Shows}
-use Rattle.next.specs.Outcome.{acquiredParts, outcomeBytes}
-use Rattle.next.specs.declared.LeaseAcquired.{LeaseAcquired as LeaseAcquiredAt}
+use Rattle.next.specs.Outcome.{outcomeBytes, Fits}
+use Rattle.requests.specs.declared.SnapshotLeaseToken.{SnapshotLeaseToken as LeaseTokenAt}
 use Rattle.next.specs.declared.PublicationOutcome.{PublicationOutcome}
 use Rattle.next.specs.Call.{Ready, ruled}
 use Rattle.floor.specs.Floors.{policyFor, readableFor, oldestAt}
@@ -49,7 +48,7 @@ use Rattle.floor.specs.Oldest.{oldest-here}
 use Rattle.leases.specs.Oldest.{oldest-insert}
 use Rattle.leases.specs.Leased.{withLeases, Recomputed, recomputed, small-leases, table-size-low, table-count-low}
 use Rattle.leases.specs.Placed.{Found, missing, held, inserted-count, inserted-size, placed-tables}
-use Rattle.leases.specs.Asked.{splitAt, acquiredAt, asked-gathers, asked-length}
+use Rattle.leases.specs.Asked.{a as front-of, b as back-of, front-length, halves-length, asked-gathers, asked-length}
 
 -- ---- the tests
 
@@ -275,49 +274,125 @@ module _ {x : List ℕ} {c : Contents} {q : List ℕ} {a : ContextAt} {f : Fault
   abbrev key : Text
   key = textOf q (l .«lease_id»)
 
-  pub acquire-small : {c′ : Contents} {root-epoch policy readable clock epoch more count : ℕ} → more ≡ length q - 27
-      → c′ ≡ withLeases c a root-epoch policy readable clock epoch (c .leases .size + (more + 32)) count → Small c′
-  acquire-small m h = small-leases (r .state) (r .formed) c (r .opened) a (omega (arith, m, size-low r, request-low r)) h
+  abbrev front-half : List ℕ
+  front-half = front-of q key (textOf q (l .«tenant_id»)) (l .«snapshot_version») (textOf q (l .owner)) (textOf q (l .purpose)) (l .«deadline_tick») (closureOf q (l .closure)) (here r)
 
-  pub acquire-shows : (root-epoch policy old candidate readable epoch more : ℕ)
-      → epoch ≡ up (c .scalars .«lease_epoch»)
-      → root-epoch ≡ cond (f .«omit_lease_root_epoch») (c .scalars .«root_intent_epoch») (up (c .scalars .«root_intent_epoch»))
-      → policy ≡ policyFor (c .scalars .«retention_window») (c .scalars .«observed_commit_frontier») (c .scalars .«policy_floor»)
-      → old ≡ oldestAt policy (rows-at (codes lease) (c .leases .count) (drop (c .leases .at) x))
-      → candidate ≡ min (l .«snapshot_version») old
-      → readable ≡ readableFor (c .scalars .«retention_window») candidate (c .scalars .«minimum_readable_version»)
-      → more ≡ length q - 27
-      → (c′ : Contents) → c′ ≡ withLeases c a root-epoch policy readable (c .scalars .«lease_clock_tick») epoch (c .leases .size + (more + 32)) (c .leases .count + 1)
-      → Shows x q 0 c′ (set-revision (positionOf (a .position)) (acquired (r .state) key (new r) (f .«omit_lease_root_epoch»)))
-  acquire-shows root-epoch policy old candidate readable epoch more ee er p k t v m c′ h =
-      let none-there = missing (r .state) x (r .image-is) (r .formed) c (r .opened) key place (g .found) (g .free) .0 in
-      subst (λ (d : Contents). Shows x q 0 d (set-revision (positionOf (a .position)) (acquired (r .state) key (new r) (f .«omit_lease_root_epoch»)))) (sym h)
-      (subst (Acquired (r .state) x q (r .image-is) (r .formed) a key (new r) (f .«omit_lease_root_epoch»)) (sym (r .opened)) (shown (r .state) x q (r .image-is) (r .formed) a key (new r) (f .«omit_lease_root_epoch»))
-      root-epoch policy old candidate readable epoch (c .leases .size + (more + 32)) (c .leases .count + 1) ee er p k t v
-      (λ floor. oldest-insert key (new r) (r .state .leases) floor none-there)
-      (ap (λ (n : ℕ). c .leases .size + (n + 32)) m
-      ∙ ap (λ (n : ℕ). c .leases .size + n)
-      (sym (asked-length q key (textOf q (l .«tenant_id»)) (l .«snapshot_version») (textOf q (l .owner)) (textOf q (l .purpose)) (l .«deadline_tick») (closureOf q (l .closure)) (here r) (r .state) (contextOf a)))
-      ∙ sym (inserted-size (r .state) x (r .image-is) (r .formed) c (r .opened) key place (g .found) (new r) (g .free)))
-      (sym (inserted-count (r .state) x (r .image-is) (r .formed) c (r .opened) key place (g .found) (new r) none-there)))
+  abbrev back-half : List ℕ
+  back-half = back-of q key (textOf q (l .«tenant_id»)) (l .«snapshot_version») (textOf q (l .owner)) (textOf q (l .purpose)) (l .«deadline_tick») (closureOf q (l .closure)) (here r)
 
-  -- what is written in its place
-  module _ {split first epoch : ℕ} (cut : split ≡ splitAt q) (up-to : first ≡ split - 27) (next : epoch ≡ up (c .scalars .«lease_epoch»)) where
-    abbrev told : LeaseAcquiredAt
-    told = acquiredAt first split (length q) epoch (a .generation) (a .position .term) (a .position .index)
+  halves : length q ≡ 27 + length front-half + length back-half
+  halves = halves-length q key (textOf q (l .«tenant_id»)) (l .«snapshot_version») (textOf q (l .owner)) (textOf q (l .purpose)) (l .«deadline_tick») (closureOf q (l .closure)) (here r)
 
-    abbrev row : List ℕ
-    row = acquiredParts told
+  -- where they stand
+  abbrev Start : ℕ
+  Start = l .«lease_id» .at - 1
 
-    row-gathers : (ps : List ℕ) → gatherOf x q (row ++ ps) ≡ enc lease (lease-parts (new r)) ++ gatherOf x q ps
-    row-gathers ps =
-        asked-gathers q key (textOf q (l .«tenant_id»)) (l .«snapshot_version») (textOf q (l .owner)) (textOf q (l .purpose)) (l .«deadline_tick») (closureOf q (l .closure)) (here r) (r .state) (contextOf a)
-        x first split epoch up-to cut (next ∙ ap (λ (d : Contents). up (d .scalars .«lease_epoch»)) (r .opened)) ps
+  abbrev Rest : ℕ
+  Rest = l .owner .at - 1
 
-    pub acquire-tables : (n : ℕ) → n ≡ place .start - c .intents .at
-        → gatherOf x q (0 ∷ c .intents .at ∷ n ∷ (row ++ 0 ∷ place .end ∷ length x ∷ [])) ≡ from-intents (acquired (r .state) key (new r) (f .«omit_lease_root_epoch»))
-    acquire-tables n h = placed-tables (r .state) x (r .image-is) (r .formed) c (r .opened) key place (g .found) q row (new r) row-gathers n h
+  abbrev End : ℕ
+  End = l .closure .«object_keys» .at + l .closure .«object_keys» .len
 
-    pub acquire-told : outcomeBytes x q (PublicationOutcome.LeaseAcquired told) ≡ encodeOutcome (LeaseAcquired (new r))
-    unfolding digits encodeOutcome write-parts
-    acquire-told = ap (λ (r : List ℕ). 2 ∷ r) (row-gathers [] ∙ append-nil (enc lease (lease-parts (new r))))
+  start-is : Start ≡ 27
+  start-is = omega (arith, lease-places r .0)
+
+  rest-is : Rest ≡ 27 + length front-half
+  rest-is = omega (arith, lease-places r .1, front-length q key (textOf q (l .«tenant_id»)) (l .«snapshot_version») (textOf q (l .owner)) (textOf q (l .purpose)) (l .«deadline_tick») (closureOf q (l .closure)) (here r))
+
+  end-is : End ≡ length q
+  end-is = lease-places r .2
+
+  pub end-low : End ≤ 8000
+  end-low = omega (arith, end-is, request-low r)
+
+  -- the lengths of the two runs, as the code has them
+  module _ {start rest first second : ℕ} (s₁ : start ≡ Start) (s₂ : rest ≡ Rest) (s₃ : first ≡ rest - start) (s₄ : second ≡ End - rest) where
+    first-is : first ≡ length front-half
+    first-is = omega (arith, s₁, s₂, s₃, start-is, rest-is)
+
+    second-is : second ≡ length back-half
+    second-is = omega (arith, s₂, s₄, rest-is, end-is, halves)
+
+    pub runs-low : first + second ≤ 8000
+    runs-low = omega (arith, first-is, second-is, halves, request-low r)
+
+    pub acquire-small : {c′ : Contents} {root-epoch policy readable clock epoch count : ℕ}
+        → c′ ≡ withLeases c a root-epoch policy readable clock epoch (c .leases .size + (first + second + 32)) count → Small c′
+    acquire-small h = small-leases (r .state) (r .formed) c (r .opened) a (omega (arith, runs-low, size-low r)) h
+
+    pub acquire-shows : (root-epoch policy old candidate readable epoch : ℕ)
+        → epoch ≡ up (c .scalars .«lease_epoch»)
+        → root-epoch ≡ cond (f .«omit_lease_root_epoch») (c .scalars .«root_intent_epoch») (up (c .scalars .«root_intent_epoch»))
+        → policy ≡ policyFor (c .scalars .«retention_window») (c .scalars .«observed_commit_frontier») (c .scalars .«policy_floor»)
+        → old ≡ oldestAt policy (rows-at (codes lease) (c .leases .count) (drop (c .leases .at) x))
+        → candidate ≡ min (l .«snapshot_version») old
+        → readable ≡ readableFor (c .scalars .«retention_window») candidate (c .scalars .«minimum_readable_version»)
+        → (c′ : Contents) → c′ ≡ withLeases c a root-epoch policy readable (c .scalars .«lease_clock_tick») epoch (c .leases .size + (first + second + 32)) (c .leases .count + 1)
+        → Shows x q 0 c′ (set-revision (positionOf (a .position)) (acquired (r .state) key (new r) (f .«omit_lease_root_epoch»)))
+    acquire-shows root-epoch policy old candidate readable epoch ee er p k t v c′ h =
+        let none-there = missing (r .state) x (r .image-is) (r .formed) c (r .opened) key place (g .found) (g .free) .0 in
+        subst (λ (d : Contents). Shows x q 0 d (set-revision (positionOf (a .position)) (acquired (r .state) key (new r) (f .«omit_lease_root_epoch»)))) (sym h)
+        (subst (Acquired (r .state) x q (r .image-is) (r .formed) a key (new r) (f .«omit_lease_root_epoch»)) (sym (r .opened)) (shown (r .state) x q (r .image-is) (r .formed) a key (new r) (f .«omit_lease_root_epoch»))
+        root-epoch policy old candidate readable epoch (c .leases .size + (first + second + 32)) (c .leases .count + 1) ee er p k t v
+        (λ floor. oldest-insert key (new r) (r .state .leases) floor none-there)
+        ((λ i. c .leases .size + (first-is i + second-is i + 32))
+        ∙ ap (λ (n : ℕ). c .leases .size + n)
+        (sym (asked-length q key (textOf q (l .«tenant_id»)) (l .«snapshot_version») (textOf q (l .owner)) (textOf q (l .purpose)) (l .«deadline_tick») (closureOf q (l .closure)) (here r) (r .state) (contextOf a)))
+        ∙ sym (inserted-size (r .state) x (r .image-is) (r .formed) c (r .opened) key place (g .found) (new r) (g .free)))
+        (sym (inserted-count (r .state) x (r .image-is) (r .formed) c (r .opened) key place (g .found) (new r) none-there)))
+
+    -- what is written in its place
+    module _ {epoch : ℕ} (next : epoch ≡ up (c .scalars .«lease_epoch»)) where
+      epoch-is : epoch ≡ up (r .state .lease-epoch)
+      epoch-is = next ∙ ap (λ (d : Contents). up (d .scalars .«lease_epoch»)) (r .opened)
+
+      abbrev row : List ℕ
+      row = 1 ∷ start ∷ first ∷ 2 ∷ epoch ∷ 8 ∷ 1 ∷ rest ∷ second ∷ 2 ∷ a .generation ∷ 8 ∷ 2 ∷ a .position .term ∷ 8 ∷ 2 ∷ a .position .index ∷ 8 ∷ []
+
+      row-gathers : (ps : List ℕ) → gatherOf x q (row ++ ps) ≡ enc lease (lease-parts (new r)) ++ gatherOf x q ps
+      row-gathers ps =
+          asked-gathers q key (textOf q (l .«tenant_id»)) (l .«snapshot_version») (textOf q (l .owner)) (textOf q (l .purpose)) (l .«deadline_tick») (closureOf q (l .closure)) (here r) (r .state) (contextOf a)
+          x start rest first second epoch (s₁ ∙ start-is) (s₂ ∙ rest-is) first-is second-is epoch-is ps
+
+      pub acquire-tables : (n : ℕ) → n ≡ place .start - c .intents .at
+          → gatherOf x q (0 ∷ c .intents .at ∷ n ∷ (row ++ 0 ∷ place .end ∷ length x ∷ [])) ≡ from-intents (acquired (r .state) key (new r) (f .«omit_lease_root_epoch»))
+      acquire-tables n h = placed-tables (r .state) x (r .image-is) (r .formed) c (r .opened) key place (g .found) q row (new r) row-gathers n h
+
+      abbrev pub told : LeaseTokenAt
+      told = record {
+        «lease_id» = l .«lease_id»;
+        «tenant_id» = l .«tenant_id»;
+        «snapshot_version» = l .«snapshot_version»;
+        «lease_epoch» = epoch;
+        owner = l .owner;
+        purpose = l .purpose;
+        «deadline_tick» = l .«deadline_tick»;
+        closure = l .closure;
+        «owner_generation» = a .generation;
+        «authority_position» = a .position;
+      }
+
+      token-is : leaseTokenOf q told ≡ new r
+      token-is = λ i. record {
+        lease-id = key;
+        tenant-id = textOf q (l .«tenant_id»);
+        snapshot-version = l .«snapshot_version»;
+        lease-epoch = epoch-is i;
+        owner = textOf q (l .owner);
+        purpose = textOf q (l .purpose);
+        deadline-tick = l .«deadline_tick»;
+        closure = closureOf q (l .closure);
+        owner-generation = a .generation;
+        authority-position = positionOf (a .position);
+      }
+
+      pub acquire-fits : Fits x q (PublicationOutcome.LeaseAcquired told)
+      acquire-fits = (
+        omega (arith, end-low),
+        (λ i. gatherOf x q (1 ∷ sym s₁ i ∷ (sym s₂ i - sym s₁ i) ∷ 2 ∷ epoch ∷ 8 ∷ 1 ∷ sym s₂ i ∷ (End - sym s₂ i) ∷ 2 ∷ a .generation ∷ 8 ∷ 2 ∷ a .position .term ∷ 8 ∷ 2 ∷ a .position .index ∷ 8 ∷ []))
+            ∙ (λ i. gatherOf x q (1 ∷ start ∷ sym s₃ i ∷ 2 ∷ epoch ∷ 8 ∷ 1 ∷ rest ∷ sym s₄ i ∷ 2 ∷ a .generation ∷ 8 ∷ 2 ∷ a .position .term ∷ 8 ∷ 2 ∷ a .position .index ∷ 8 ∷ []))
+            ∙ row-gathers [] ∙ append-nil (enc lease (lease-parts (new r))) ∙ ap (λ (t : SnapshotLeaseToken). enc lease (lease-parts t)) (sym token-is),
+      )
+
+      pub acquire-told : outcomeBytes x q (PublicationOutcome.LeaseAcquired told) ≡ encodeOutcome (LeaseAcquired (new r))
+      acquire-told = ap (λ (t : SnapshotLeaseToken). encodeOutcome (LeaseAcquired t)) token-is

@@ -10,11 +10,11 @@ use Rattle.parts.specs.Gather.{gatherOf, run}
 use Rattle.state.specs.Maps.{Text, Map, Entry, _⟼_, lookup, insert, remove}
 use Rattle.state.specs.Places.{ahead, at, behind}
 use Rattle.state.specs.Records.{SnapshotLeaseToken, State}
-use Rattle.fields.specs.Format.{all, enc, enc-text}
+use Rattle.fields.specs.Format.{all, enc, enc-text, Within}
 use Rattle.fields.specs.Codes.{codes, codeOf, codesOf, skip}
-use Rattle.tables.specs.Seek.{seek, placed}
+use Rattle.tables.specs.Seek.{Seen, seek, placed}
 use Rattle.tables.specs.declared.Place.{Place}
-use Rattle.image.specs.Shapes.{lease}
+use Rattle.image.specs.Shapes.{lease, lease-parts}
 use Rattle.image.specs.Layout.{encodeImage, Formed}
 use Rattle.image.specs.Opened.{contentsOf}
 use Rattle.image.specs.Tables.{lease-row, bytes-split, bytes-insert, bytes-remove}
@@ -23,9 +23,8 @@ use Rattle.image.specs.Stored.{leases-stored}
 use Rattle.image.specs.declared.Contents.{Contents}
 use Rattle.machine.specs.Actions.{Rule, find-or, decide}
 use Rattle.next.specs.Kept.{tables-here, length-here, before-leases, leases-seam}
-use Rattle.next.specs.Edit.{none-there, some-there, from-place, run-ahead, run-behind, remove-size, remove-count, insert-over, insert-new, insert-size}
-use Rattle.next.specs.Due.{before-deadline}
-use Rattle.leases.specs.Rows.{before-epoch, epoch-row, deadline-row}
+use Rattle.next.specs.Edit.{row-none, row-some, row-size, none-there, some-there, from-place, run-row, run-ahead, run-behind, remove-size, remove-count, insert-over, insert-new, insert-size}
+use Rattle.leases.specs.Rows.{before-epoch, epoch-row}
 use Rattle.image.specs.CodeLists.{lease-codes}
 
 long : (e : Entry SnapshotLeaseToken) → 1 ≤ length (lease-row e)
@@ -38,8 +37,11 @@ unfolding decide
 found-then {A} n o rest v h = ap (λ (p : Option A). decide (find-or n p rest)) h
 
 -- the place of an id, as the code finds it
+abbrev sought : List ℕ → Contents → Text → Seen
+sought x c k = seek (codesOf (64 ∷ 64 ∷ 8 ∷ 8 ∷ 64 ∷ 64 ∷ 8 ∷ 9 ∷ 128 ∷ 8 ∷ 64 ∷ 10 ∷ 8 ∷ 8 ∷ 8 ∷ [])) (c .leases .count) k (drop (c .leases .at) x)
+
 abbrev Located : List ℕ → Contents → Text → Place → Type 0
-Located x c k place = place ≡ placed x (seek (codesOf (64 ∷ 64 ∷ 8 ∷ 8 ∷ 64 ∷ 64 ∷ 8 ∷ 9 ∷ 128 ∷ 8 ∷ 64 ∷ 10 ∷ 8 ∷ 8 ∷ 8 ∷ [])) (c .leases .count) k (drop (c .leases .at) x))
+Located x c k place = place ≡ placed x (sought x c k)
 
 pub record Found (x : List ℕ) (c : Contents) (k : Text) (place : Place) : Type 0 where
   pub is : Located x c k place
@@ -47,6 +49,17 @@ pub record Found (x : List ℕ) (c : Contents) (k : Text) (place : Place) : Type
 -- by the id's bytes as they were cut out of the request
 pub found-as : {x : List ℕ} {c : Contents} {k : Text} {place : Place} (id : Text) → id ≡ k → Located x c id place → Found x c k place
 found-as {x} {c} {k} {place} id i f = record { is = subst (λ (j : Text). Located x c j place) i f }
+
+-- the row there: none, or one, and how long it is
+module _ {x : List ℕ} {c : Contents} {k : Text} {place : Place} (f : Found x c k place) {row : List ℕ} (e : row ≡ run x (place .start) (place .end - place .start)) where
+  pub no-row : length row ≡ 0 → place .end ≤ place .start
+  no-row = row-none x (sought x c k) place (f .is) row e
+
+  pub a-row : (length row ≡ 0 → ⊥) → place .start < place .end
+  a-row = row-some x (sought x c k) place (f .is) row e
+
+  pub row-long : length row ≡ place .end - place .start
+  row-long = row-size x (sought x c k) place (f .is) row e
 
 module _ (s : State) (x : List ℕ) (e : encodeImage s ≡ x) (w : Formed s) (c : Contents) (o : c ≡ contentsOf s) (k : Text) (place : Place) (f : Found x c k place) where
   abbrev m : Map SnapshotLeaseToken
@@ -97,13 +110,19 @@ module _ (s : State) (x : List ℕ) (e : encodeImage s ≡ x) (w : Formed s) (c 
         from-place (codes lease) lease-row x (intents-at s) (leases-at s) front m (from-jobs s) here starts low (leases-stored s w .hopped) k place found
         ∙ ap (λ (l : Map SnapshotLeaseToken). all lease-row l ++ rest) there ∙ ap (λ (l : List ℕ). l ++ rest) (append-nil (lease-row (k ⟼ v)))
 
-    pub epoch-there : value (take 8 (skip 0 (codesOf (64 ∷ 64 ∷ 8 ∷ [])) (drop (place .start) x))) ≡ v .lease-epoch
-    unfolding codesOf codeOf
-    epoch-there = ap (λ (l : List ℕ). value (take 8 (skip 0 before-epoch l))) row-there ∙ epoch-row v rest (leases-stored s w .found k v looked .1 .1 .1 .1 .0)
+    -- the row itself, and its epoch
+    pub row-held : run x (place .start) (place .end - place .start) ≡ lease-row (k ⟼ v)
+    unfolding all
+    row-held =
+        run-row (codes lease) lease-row x (intents-at s) (leases-at s) front m (from-jobs s) here starts low (leases-stored s w .hopped) k place found
+        ∙ ap (all lease-row) there ∙ append-nil (lease-row (k ⟼ v))
 
-    pub deadline-there : value (take 8 (skip 0 (codesOf (64 ∷ 64 ∷ 8 ∷ 8 ∷ 64 ∷ 64 ∷ [])) (drop (place .start) x))) ≡ v .deadline-tick
+    pub row-within : Within lease (lease-parts v)
+    row-within = leases-stored s w .found k v looked .1
+
+    pub epoch-held : (row : List ℕ) → row ≡ run x (place .start) (place .end - place .start) → value (take 8 (skip 0 (codesOf (64 ∷ 64 ∷ 8 ∷ [])) row)) ≡ v .lease-epoch
     unfolding codesOf codeOf
-    deadline-there = ap (λ (l : List ℕ). value (take 8 (skip 0 before-deadline l))) row-there ∙ deadline-row v rest (leases-stored s w .found k v looked .1 .1 .1 .1 .1 .1 .1 .0)
+    epoch-held row e = ap (λ (l : List ℕ). value (take 8 (skip 0 before-epoch l))) (e ∙ row-held ∙ sym (append-nil (lease-row (k ⟼ v)))) ∙ epoch-row v [] (leases-stored s w .found k v looked .1 .1 .1 .1 .0)
 
     -- another in its place
     module _ (u : SnapshotLeaseToken) where

@@ -9,7 +9,7 @@ use lib.ListN.{length, take, drop}
 use lib.Dec.{eqb}
 use borrow.Author.Tests.{eq-eqb, ne-eqb}
 use Rattle.parts.specs.Digits.{value}
-use Rattle.parts.specs.Gather.{gatherOf}
+use Rattle.parts.specs.Gather.{gatherOf, run}
 use Rattle.state.specs.Maps.{Text, _⟼_, lookup, remove}
 use Rattle.state.specs.Places.{at}
 use Rattle.state.specs.Records.{SnapshotLeaseToken, State, AuthorityContext, PublicationAuthorityFaults}
@@ -39,7 +39,7 @@ use Rattle.next.specs.Call.{Ready, ruled}
 use Rattle.floor.specs.Floors.{policyFor, readableFor}
 use Rattle.leases.specs.Oldest.{named, oldestKept, without-here}
 use Rattle.leases.specs.Leased.{withLeases, Recomputed, recomputed, small-leases}
-use Rattle.leases.specs.Placed.{found-then, Found, missing, held, epoch-there, removed-count, removed-size, removed-tables}
+use Rattle.leases.specs.Placed.{found-then, Found, missing, held, epoch-held, removed-count, removed-size, removed-tables}
 
 module _ (s : State) (id : Text) (epoch : ℕ) (x : AuthorityContext) (g : PublicationAuthorityFaults) where
   abbrev ruling : Transition
@@ -105,9 +105,9 @@ module _ {x : List ℕ} {c : Contents} {q : List ℕ} {a : ContextAt} {f : Fault
       stands : (v : SnapshotLeaseToken) × (at id (s .leases) ≡ (id ⟼ v) ∷ []) × (lookup id (s .leases) ≡ some v)
       stands = held s x (ready .image-is) (ready .formed) c (ready .opened) id place found there
 
-      module _ {now : ℕ} (read : now ≡ value (take 8 (skip 0 (codesOf (64 ∷ 64 ∷ 8 ∷ [])) (drop (place .start) x)))) where
+      module _ {row : List ℕ} (row-is : row ≡ run x (place .start) (place .end - place .start)) {now : ℕ} (read : now ≡ value (take 8 (skip 0 (codesOf (64 ∷ 64 ∷ 8 ∷ [])) row))) where
         epoch-is : now ≡ stands .0 .lease-epoch
-        epoch-is = read ∙ epoch-there s x (ready .image-is) (ready .formed) c (ready .opened) id place found (stands .0) (stands .1) (stands .2)
+        epoch-is = read ∙ epoch-held s x (ready .image-is) (ready .formed) c (ready .opened) id place found (stands .0) (stands .1) (stands .2) row row-is
 
         pub other-epoch : (now ≡ l .«expected_lease_epoch» → ⊥) → ruled ready ≡ rejected 23
         other-epoch h = release-mismatch s id (l .«expected_lease_epoch») (contextOf a) (faultsOf f) (stands .0) (stands .2) (λ k. h (epoch-is ∙ k))

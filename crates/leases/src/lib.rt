@@ -1,7 +1,7 @@
 // The actions on one lease by its id: acquire, renew, release.
 ghost use mathlib.Core.Bool.{cond, not, _&&_};
 ghost use mathlib.Core.Path.{_≡_};
-ghost use Prim.Native.Nat.{_+_, _-_, min};
+ghost use Prim.Native.Nat.{min};
 ghost use lib.Dec.{ltb};
 ghost use lib.ListN.{length, drop};
 ghost use Rattle.parts.specs.Answer.{Gave};
@@ -13,51 +13,21 @@ ghost use Rattle.requests.specs.declared.PublicationAction.{PublicationAction};
 ghost use Rattle.next.specs.Call.{Ready};
 ghost use Rattle.leases.specs.Oldest.{named, oldestKept};
 ghost use Rattle.leases.specs.Leased.{withLeases};
-ghost use Rattle.leases.specs.Runs.{runsOf};
 ghost use Rattle.leases.specs.Acquire.{unsetOf, invalidOf, Acquiring};
+ghost use Rattle.leases.specs.Renew.{Renewing};
 use image::Contents;
 use image::MaybeNumber;
 use image::Scalars;
 use image::Table;
-use next::LeaseAcquired;
-use next::LeaseRenewed;
 use next::PublicationOutcome;
-use next::Span;
 use parts::Applied;
 use requests::AcquireLease;
 use requests::AuthorityContext;
 use requests::PublicationAuthorityFaults;
 use requests::ReleaseLease;
 use requests::RenewLease;
+use requests::SnapshotLeaseToken;
 use tables::Place;
-
-// What a renewal keeps of a record: so many bytes up to its epoch; from there up to the deadline; and from there up to
-// the generation.
-struct Runs {
-    to_epoch: usize,
-    from_epoch: usize,
-    to_deadline: usize,
-    from_deadline: usize,
-    to_generation: usize,
-}
-
-fn runs_at(s: &[u8], at: usize) -> Runs
-    ensures { λ r. ⌜ r ≡ runsOf (now (s .entry)) at ⌝ }
-{
-    let before_epoch = [64u8, 64, 8];
-    let before_deadline = [64u8, 64, 8, 8, 64, 64];
-    let before_generation = [64u8, 64, 8, 8, 64, 64, 8, 9, 128, 8, 64, 10];
-    let epoch = tables::skip_record(&before_epoch, s, at);
-    let deadline = tables::skip_record(&before_deadline, s, at);
-    let generation = tables::skip_record(&before_generation, s, at);
-    Runs {
-        to_epoch: parts::less(epoch, at),
-        from_epoch: epoch + 8,
-        to_deadline: parts::less(deadline, epoch + 8),
-        from_deadline: deadline + 8,
-        to_generation: parts::less(generation, deadline + 8),
-    }
-}
 
 // The smaller of m and the version, or m where the lease is gone.
 pub fn older(gone: bool, version: u64, m: u64) -> u64
@@ -207,9 +177,6 @@ fn put_lease(
     let n = c.scalars;
     let leases = c.leases;
     let w = n.retention_window;
-    let before = [64u8, 64, 8];
-    let e = tables::skip_record(&before, request, 27);
-    let first = parts::less(e, 27);
     let epoch = next::up(n.lease_epoch);
     let root_epoch = next::up_unless(f.omit_lease_root_epoch, n.root_intent_epoch);
     let policy = floor::policy_for(w, n.observed_commit_frontier, n.policy_floor);
@@ -219,7 +186,18 @@ fn put_lease(
         floor::oldest(image, leases.at, leases.count, policy),
     );
     let readable = floor::readable_for(w, candidate, n.minimum_readable_version);
-    let size = leases.size + (parts::less(request.len(), 27) + 32);
+    let lease_id = a.lease_id;
+    let tenant_id = a.tenant_id;
+    let owner = a.owner;
+    let purpose = a.purpose;
+    let closure = a.closure;
+    let authority_position = x.position;
+    let keys = closure.object_keys;
+    let start = parts::less(lease_id.at, 1);
+    let rest = parts::less(owner.at, 1);
+    let first = parts::less(rest, start);
+    let second = parts::less(keys.at + keys.len, rest);
+    let size = leases.size + (first + second + 32);
     let c2 = with_leases(
         c,
         x,
@@ -236,14 +214,14 @@ fn put_lease(
         c.intents.at,
         parts::less(p.start, c.intents.at),
         1,
-        27,
+        start,
         first,
         2,
         epoch as usize,
         8,
         1,
-        e,
-        request.len(),
+        rest,
+        second,
         2,
         x.generation as usize,
         8,
@@ -257,18 +235,19 @@ fn put_lease(
         p.end,
         image.len(),
     ];
-    let position = x.position;
-    let told = PublicationOutcome::LeaseAcquired(LeaseAcquired {
-        to_version: Span { at: 27, len: first },
+    let told = PublicationOutcome::LeaseAcquired(SnapshotLeaseToken {
+        lease_id,
+        tenant_id,
+        snapshot_version: a.snapshot_version,
         lease_epoch: epoch,
-        from_owner: Span {
-            at: e,
-            len: request.len(),
-        },
+        owner,
+        purpose,
+        deadline_tick: a.deadline_tick,
+        closure,
         owner_generation: x.generation,
-        authority_position: position,
+        authority_position,
     });
-    next::emit(0, c2, image, request, &body, told, next, outcome)
+    next::emit(0, c2, image, request, &body, image, told, next, outcome)
 }
 
 pub fn acquire_lease(
@@ -315,6 +294,94 @@ pub fn acquire_lease(
     put_lease(image, c, request, x, f, a, p, next, outcome)
 }
 
+// The lease put in place of the one that is held: its bytes but for the epoch, the deadline and the context.
+fn put_renewed(
+    image: &[u8],
+    c: Contents,
+    request: &[u8],
+    x: AuthorityContext,
+    f: PublicationAuthorityFaults,
+    a: RenewLease,
+    p: Place,
+    row: &[u8],
+    held: SnapshotLeaseToken,
+    next: &mut [u8],
+    outcome: &mut [u8],
+) -> Applied
+    requires { ⌜ Renewing (now image) c (now request) x f a p (now row) held ⌝ }
+    ensures { λ r. ⌜ Gave (applyBytes (now (image .entry)) (now (request .entry)) (length (now (next .entry))) (length (now (outcome .entry)))) (now (next .entry)) (now (outcome .entry)) r (now (next .exit)) (now (outcome .exit)) ⌝ }
+{
+    let n = c.scalars;
+    let leases = c.leases;
+    let epoch = next::up(n.lease_epoch);
+    let root_epoch = next::up_unless(f.omit_lease_root_epoch, n.root_intent_epoch);
+    let c2 = with_leases(
+        c,
+        x,
+        root_epoch,
+        n.policy_floor,
+        n.minimum_readable_version,
+        n.lease_clock_tick,
+        epoch,
+        leases.size,
+        leases.count,
+    );
+    let lease_id = held.lease_id;
+    let tenant_id = held.tenant_id;
+    let owner = held.owner;
+    let purpose = held.purpose;
+    let closure = held.closure;
+    let authority_position = x.position;
+    let keys = closure.object_keys;
+    let rest = parts::less(owner.at, 1);
+    let deadline = purpose.at + purpose.len;
+    let body = [
+        0,
+        c.intents.at,
+        parts::less(p.start, c.intents.at),
+        0,
+        p.start,
+        parts::less(rest, 8),
+        2,
+        epoch as usize,
+        8,
+        0,
+        p.start + rest,
+        parts::less(deadline, rest),
+        2,
+        a.new_deadline_tick as usize,
+        8,
+        0,
+        p.start + (deadline + 8),
+        parts::less(keys.at + keys.len, deadline + 8),
+        2,
+        x.generation as usize,
+        8,
+        2,
+        x.position.term as usize,
+        8,
+        2,
+        x.position.index as usize,
+        8,
+        0,
+        p.end,
+        image.len(),
+    ];
+    let told = PublicationOutcome::LeaseRenewed(SnapshotLeaseToken {
+        lease_id,
+        tenant_id,
+        snapshot_version: held.snapshot_version,
+        lease_epoch: epoch,
+        owner,
+        purpose,
+        deadline_tick: a.new_deadline_tick,
+        closure,
+        owner_generation: x.generation,
+        authority_position,
+    });
+    next::emit(0, c2, image, request, &body, row, told, next, outcome)
+}
+
 pub fn renew_lease(
     image: &[u8],
     c: Contents,
@@ -333,88 +400,21 @@ pub fn renew_lease(
     let t = a.lease_id;
     let id = parts::clip(request, t.at, t.len);
     let p = tables::locate(&image::LEASE, image, leases.at, leases.count, id);
-    if p.end <= p.start {
+    let row = tables::row(image, p);
+    if row.len() == 0 {
         return parts::refuse(22);
     }
-    let before_epoch = [64u8, 64, 8];
-    let held = next::number_after(&before_epoch, image, p.start);
-    if held != a.expected_lease_epoch {
+    let held = requests::lease_token_at(row, 0);
+    if held.lease_epoch != a.expected_lease_epoch {
         return parts::refuse(23);
     }
     if a.new_deadline_tick <= n.lease_clock_tick {
         return parts::refuse(24);
     }
-    let before_deadline = [64u8, 64, 8, 8, 64, 64];
-    let deadline = next::number_after(&before_deadline, image, p.start);
-    if a.new_deadline_tick <= deadline {
+    if a.new_deadline_tick <= held.deadline_tick {
         return parts::refuse(24);
     }
-    let epoch = next::up(n.lease_epoch);
-    let root_epoch = next::up_unless(f.omit_lease_root_epoch, n.root_intent_epoch);
-    let r = runs_at(image, p.start);
-    let c2 = with_leases(
-        c,
-        x,
-        root_epoch,
-        n.policy_floor,
-        n.minimum_readable_version,
-        n.lease_clock_tick,
-        epoch,
-        leases.size,
-        leases.count,
-    );
-    let body = [
-        0,
-        c.intents.at,
-        parts::less(p.start, c.intents.at),
-        0,
-        p.start,
-        r.to_epoch,
-        2,
-        epoch as usize,
-        8,
-        0,
-        r.from_epoch,
-        r.to_deadline,
-        2,
-        a.new_deadline_tick as usize,
-        8,
-        0,
-        r.from_deadline,
-        r.to_generation,
-        2,
-        x.generation as usize,
-        8,
-        2,
-        x.position.term as usize,
-        8,
-        2,
-        x.position.index as usize,
-        8,
-        0,
-        p.end,
-        image.len(),
-    ];
-    let position = x.position;
-    let told = PublicationOutcome::LeaseRenewed(LeaseRenewed {
-        to_version: Span {
-            at: p.start,
-            len: r.to_epoch,
-        },
-        lease_epoch: epoch,
-        owner_and_purpose: Span {
-            at: r.from_epoch,
-            len: r.to_deadline,
-        },
-        deadline_tick: a.new_deadline_tick,
-        closure: Span {
-            at: r.from_deadline,
-            len: r.to_generation,
-        },
-        owner_generation: x.generation,
-        authority_position: position,
-    });
-    next::emit(0, c2, image, request, &body, told, next, outcome)
+    put_renewed(image, c, request, x, f, a, p, row, held, next, outcome)
 }
 
 pub fn release_lease(
@@ -435,11 +435,12 @@ pub fn release_lease(
     let t = a.lease_id;
     let id = parts::clip(request, t.at, t.len);
     let p = tables::locate(&image::LEASE, image, leases.at, leases.count, id);
-    if p.end <= p.start {
+    let row = tables::row(image, p);
+    if row.len() == 0 {
         return parts::refuse(22);
     }
     let before = [64u8, 64, 8];
-    let held = next::number_after(&before, image, p.start);
+    let held = next::number_after(&before, row, 0);
     if held != a.expected_lease_epoch {
         return parts::refuse(23);
     }
@@ -449,7 +450,7 @@ pub fn release_lease(
     let policy = floor::policy_for(w, n.observed_commit_frontier, n.policy_floor);
     let candidate = oldest_without(image, leases.at, leases.count, id, policy);
     let readable = floor::readable_for(w, candidate, n.minimum_readable_version);
-    let size = parts::less(leases.size, p.end - p.start);
+    let size = parts::less(leases.size, row.len());
     let count = parts::less(leases.count, 1);
     let c2 = with_leases(
         c,
@@ -471,5 +472,5 @@ pub fn release_lease(
         image.len(),
     ];
     let told = PublicationOutcome::Applied;
-    next::emit(0, c2, image, request, &body, told, next, outcome)
+    next::emit(0, c2, image, request, &body, image, told, next, outcome)
 }

@@ -1,20 +1,16 @@
 -- DEMAND 3, the statement: machines, their moments, and what is claimed of two moments.
-use Prim.Native.Nat.{ℕ, _≤_}
+use Prim.Native.Nat.{ℕ, _+_, _-_, _^_, _≤_, _<_}
 use mathlib.Core.Path.{_≡_}
 use mathlib.Core.Logic.{_↔_}
 use mathlib.Core.List.{List, [], _∷_, List·Memᴰ}
 use mathlib.Core.Option.{Option, some}
 use mathlib.Core.Bool.{false}
+use lib.ListN.{length, take}
 use Rattle.state.specs.Maps.{Text, lookup}
 use Rattle.state.specs.Records.{AuthorityContext, no-faults, State, SnapshotLeaseToken, DeletePermit, names}
-use Rattle.machine.specs.Actions.{accepted}
+use Rattle.machine.specs.Actions.{Action, Transition, rejected, accepted}
 use Rattle.machine.specs.Machine.{apply, validate}
 use Rattle.machine.specs.Ledger.{Event, refused, took, issued, Lease, Ledger, empty, after, Last}
-
--- ONE CALL on a state: a refusal of any kind changes nothing; an acceptance is that of `apply`, with no fault flag.
-abbrev pub Step : State → Event → State → Type 0
-Step s refused s′ = s ≡ s′
-Step s (took a o) s′ = (c : AuthorityContext) × (apply s a c no-faults ≡ accepted s′ o)
 
 -- A MACHINE: an image is what a call reads and leaves, a request what it is given, a token what is shown for validation.
 -- Over plain maps these are the state, an action with its context, and a lease token; over bytes all three are bytes.
@@ -30,9 +26,6 @@ pub record Machine : Type 1 where
   pub spells : Token → Option SnapshotLeaseToken
   -- the state that an image holds
   pub Holds : Image → State → Type 0
-  -- each call is a step, and validation is that of the state
-  pub steps : (x : Image) (s : State) → Holds x s → (r : Request) → (s′ : State) × Step s (told x r) s′ × Holds (call x r) s′
-  pub checks : (x : Image) (s : State) → Holds x s → (t : Token) → (check x t ≡ 0) ↔ ((u : SnapshotLeaseToken) × (spells t ≡ some u) × (validate s u ≡ 0))
 
 -- MOMENTS: the start of a list of calls, or the end of one. After the requests so far: the image, what the calls told, and the
 -- ledger of leases.
@@ -91,3 +84,38 @@ pub record Claims (M : Machine) (s₁ : State) (L₁ : Ledger) (x₂ : M .Image)
   pub validates : (t : M .Token) → (M .check x₂ t ≡ 0) ↔ ((u : SnapshotLeaseToken) × (M .spells t ≡ some u) × Last u L₂)
   -- A token of a lease that had ended by the first moment validates at no later one, though its id be live anew.
   pub never-again : (t : M .Token) (u : SnapshotLeaseToken) → M .spells t ≡ some u → List·Memᴰ u (L₁ .ended) → M .check x₂ t ≡ 0 → ⊥
+
+-- They hold of every two moments of every list of fewer than 2^64 - 1 calls, the first of them on the image x: of moment i, and of
+-- the moment j calls later.
+abbrev pub Always : (M : Machine) → M .Image → Type 0
+Always M x = (rs : List (M .Request)) → length rs < 2 ^ 64 - 1 → (i j : ℕ) → i + j ≤ length rs
+    → (s₁ s₂ : State) × M .Holds (image M x (take i rs)) s₁ × M .Holds (image M x (take (i + j) rs)) s₂
+    × Claims M s₁ (ledger M x (take i rs)) (image M x (take (i + j) rs)) s₂ (ledger M x (take (i + j) rs))
+
+-- THE MACHINE OVER PLAIN MAPS
+pub record Call : Type 0 where
+  pub action : Action
+  pub context : AuthorityContext
+
+abbrev pub answered : State → Call → Transition
+answered s r = apply s (r .action) (r .context) no-faults
+
+abbrev pub left : State → Transition → State
+left s (rejected n) = s
+left s (accepted s′ o) = s′
+
+abbrev pub said : Action → Transition → Event
+said a (rejected n) = refused
+said a (accepted s′ o) = took (some a) (some o)
+
+abbrev pub maps : Machine
+maps = record {
+  Image = State;
+  Request = Call;
+  Token = SnapshotLeaseToken;
+  call = λ s r. left s (answered s r);
+  told = λ s r. said (r .action) (answered s r);
+  check = validate;
+  spells = λ t. some t;
+  Holds = λ x s. x ≡ s;
+}

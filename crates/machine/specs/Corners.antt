@@ -3,23 +3,31 @@
 -- Assumes nothing.
 use Prim.Native.Nat.{ℕ, _-_, _^_}
 use mathlib.Core.Path.{_≡_, refl}
-use mathlib.Core.List.{[]}
+use mathlib.Core.List.{List, [], _∷_}
 use mathlib.Core.Option.{Option, none, some}
-use mathlib.Core.Bool.{true, false}
+use mathlib.Core.Bool.{true, false, cond}
 use lib.Dec.{eqb}
 use Rattle.text.specs.SameLaws.{prefix-refl}
 use Rattle.state.specs.Maps.{Text, is-empty, starts-with, lookup}
-use Rattle.state.specs.MapLaws.{by-test}
-use Rattle.state.specs.Records.{AuthorityContext, ObjectIdentity, ObjectReference, PreparedPublication, DeletePermit, PublicationAuthorityFaults, State, every, revision-eq, is-manifest, valid-context, valid-reference}
-use Rattle.machine.specs.Actions.{Action, Outcome, rejected, accepted, decide}
-use Rattle.machine.specs.Next.{up}
-use Rattle.machine.specs.Machine.{renew-lease, intent-matches, publish, reserve-delete, retire-delete, stamp, rule, apply}
+use Rattle.state.specs.MapLaws.{by-test, lookup-insert-same}
+use Rattle.state.specs.Records.{AuthorityContext, ObjectIdentity, ObjectReference, PreparedPublication, SnapshotClosure, SnapshotLeaseToken, DeletePermit, PublicationAuthorityFaults, State, every, revision-eq, is-manifest, valid-context, valid-reference}
+use Rattle.machine.specs.Actions.{Action, Outcome, LeaseAcquired, LeaseRenewed, LeasesExpired, rejected, accepted, decide}
+use Rattle.machine.specs.Next.{up, expired, moved}
+use Rattle.machine.specs.Machine.{acquire-lease, renew-lease, release-lease, advance-lease-clock, intent-matches, publish, reserve-delete, retire-delete, stamp, rule, apply}
 use Rattle.machine.specs.ApplyLaws.{Accepts, stamped}
 
 -- Epochs stop at 2^64 - 1.
 pub epochs-stop : up (2 ^ 64 - 1) ≡ 2 ^ 64 - 1
 unfolding up
 epochs-stop = refl
+
+-- a token of this id, version and closure, with the epoch next to that of s, which is then the epoch of s′
+pub record Given (s : State) (id : Text) (v : ℕ) (q : SnapshotClosure) (t : SnapshotLeaseToken) (s′ : State) : Type 0 where
+  pub its-id : t .lease-id ≡ id
+  pub its-version : t .snapshot-version ≡ v
+  pub its-closure : t .closure ≡ q
+  pub its-epoch : t .lease-epoch ≡ up (s .lease-epoch)
+  pub next-epoch : s′ .lease-epoch ≡ up (s .lease-epoch)
 
 module _ (s : State) (c : AuthorityContext) (f : PublicationAuthorityFaults) where
   -- ReserveDelete and RetireDelete leave root_intent_epoch.
@@ -38,6 +46,34 @@ module _ (s : State) (c : AuthorityContext) (f : PublicationAuthorityFaults) whe
   pub renew-same-floor : (id : Text) (epoch deadline : ℕ) → Accepts (λ s′ o. (s′ .policy-floor ≡ s .policy-floor) × (s′ .minimum-readable-version ≡ s .minimum-readable-version)) (renew-lease s id epoch deadline c f)
   unfolding renew-lease
   renew-same-floor id epoch deadline = λ _ _ _ _ _. (refl, refl)
+
+  -- An accepted AcquireLease gives the token of the request's id, version and closure, and the next state has it under the id. A
+  -- renewal gives the one of the lease that it finds.
+  pub acquire-gives : (id tenant : Text) (v : ℕ) (owner purpose : Text) (d : ℕ) (q : SnapshotClosure)
+      → Accepts (λ s′ o. (t : SnapshotLeaseToken) × (o ≡ LeaseAcquired t) × (lookup id (s′ .leases) ≡ some t) × Given s id v q t s′) (acquire-lease s id tenant v owner purpose d q c f)
+  unfolding acquire-lease
+  acquire-gives id tenant v owner purpose d q = λ _ _ _ _ _ _ _ _ _ _ _.
+      (_, refl, lookup-insert-same id _ (s .leases), record { its-id = refl; its-version = refl; its-closure = refl; its-epoch = refl; next-epoch = refl })
+
+  pub renew-gives : (id : Text) (epoch deadline : ℕ)
+      → Accepts (λ s′ o. (l t : SnapshotLeaseToken) × (lookup id (s .leases) ≡ some l) × (o ≡ LeaseRenewed t) × (lookup id (s′ .leases) ≡ some t) × Given s (l .lease-id) (l .snapshot-version) (l .closure) t s′) (renew-lease s id epoch deadline c f)
+  unfolding renew-lease
+  renew-gives id epoch deadline = λ l at _ _ _.
+      (l, _, at, refl, lookup-insert-same id _ (s .leases), record { its-id = refl; its-version = refl; its-closure = refl; its-epoch = refl; next-epoch = refl })
+
+  -- A lease that ends moves the epoch: by its release, or by a clock that lists it. A clock that lists none leaves it.
+  pub release-raises : (id : Text) (epoch : ℕ) → Accepts (λ s′ o. s′ .lease-epoch ≡ up (s .lease-epoch)) (release-lease s id epoch f)
+  unfolding release-lease
+  release-raises id epoch = λ _ _ _. refl
+
+  pub clock-raises : (expected next : ℕ)
+      → Accepts (λ s′ o. (ids : List Text) × (o ≡ LeasesExpired ids) × (s′ .lease-epoch ≡ cond (is-empty ids) (s .lease-epoch) (up (s .lease-epoch)))) (advance-lease-clock s expected next f)
+  unfolding advance-lease-clock moved
+  clock-raises expected next = λ _ _. (expired s next, refl, moves (expired s next))
+    where
+      moves : (ids : List Text) → moved ids (s .lease-epoch) ≡ cond (is-empty ids) (s .lease-epoch) (up (s .lease-epoch))
+      moves [] = refl
+      moves (id ∷ ids) = refl
 
   -- Publish tests mismatch before generation: an intent that does not match is 5 whatever its generation.
   pub mismatch-first : (id root : Text) (prior : Option ObjectReference) (m : ObjectReference) (p : PreparedPublication)

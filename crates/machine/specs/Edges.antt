@@ -1,5 +1,6 @@
--- The starred edges E2 to E10 of the scope paper, as rows of one table, by one theorem. (E1 is about the image.)
--- Faults off, generation 1; window 3 and frontier 10 stand before every row but E7's.
+-- The starred edges E2 to E10 of the scope paper, as rows of one table, by one theorem. (E1 is about the image.) Two rows more tell the
+-- order of ids by their bytes from one by their length.
+-- Faults off, generation 1; window 3 and frontier 10 stand before every row.
 use Prim.Native.Nat.{ℕ}
 use mathlib.Core.Path.{_≡_, refl}
 use mathlib.Core.List.{List, [], _∷_}
@@ -8,13 +9,13 @@ use mathlib.Core.Bool.{Bool, true, false, _&&_}
 use lib.Dec.{eqb}
 use lib.ListN.{replicate, length}
 use Rattle.text.specs.Order.{orderOf}
-use Rattle.text.specs.Same.{sameOf, prefixOf, endsWithOf, within, hexOf, allHex, sha256Of}
-use Rattle.state.specs.Maps.{Text, same-texts, all, any, lookup, insert, remove, remove-all, any-value, keys-where, is-empty}
-use Rattle.state.specs.Records.{AuthorityContext, no-faults, Manifest, ObjectReference, SnapshotClosure, SnapshotLeaseToken, State, default, every, reference-eq, lease-eq, closure-eq, position-eq, valid-context, valid-identity, valid-reference, valid-intent, valid-closure}
+use Rattle.state.specs.Maps.{Text, Map, side, same-texts, all, insert, keys-where, is-empty}
+use Rattle.state.specs.Records.{AuthorityContext, no-faults, Manifest, ObjectReference, SnapshotClosure, SnapshotLeaseToken, State, default}
 use Rattle.state.specs.Setters.{set-leases, set-lease-clock-tick}
-use Rattle.machine.specs.Actions.{Action, ObserveCommittedFrontier, SetRetentionWindow, ObserveRangeMapEpoch, ConfigureCollectionRoot, AcquireLease, ReleaseLease, AdvanceLeaseClock, PrepareCollection, Prepare, Publish, ReserveDelete, Outcome, Applied, DeleteReserved, LeaseAcquired, LeaseRenewed, LeasesExpired, CollectionPrepared, CollectionPublished, Transition, rejected, accepted, decide}
-use Rattle.machine.specs.Next.{up, oldest, policy-for, readable-for, moved}
-use Rattle.machine.specs.Machine.{observe-committed-frontier, set-retention-window, observe-range-map-epoch, configure-collection-root, acquire-lease, release-lease, advance-lease-clock, conflicts, prepare-collection, prepare, intent-matches, publish, reserve-delete, act, rule, stamp, apply, validate-found, validate}
+use Rattle.machine.specs.Actions.{Action, ObserveCommittedFrontier, SetRetentionWindow, ObserveRangeMapEpoch, ConfigureCollectionRoot, AcquireLease, ReleaseLease, AdvanceLeaseClock, PrepareCollection, Prepare, Publish, Pin, ReserveDelete, Transition, rejected, accepted}
+use Rattle.machine.specs.Machine.{apply, validate}
+use Rattle.machine.specs.Ledger.{gives}
+use Rattle.machine.specs.Computes.{machine-computes}
 
 abbrev context : ℕ → ℕ → ℕ → AuthorityContext
 context generation term index = record { generation = generation; position = record { term = term; index = index } }
@@ -42,23 +43,17 @@ run o (a ∷ calls) = run (step a o) calls
 abbrev start : Option State
 start = run (some default) (SetRetentionWindow 0 3 ∷ ObserveCommittedFrontier 10 ∷ [])
 
-abbrev ids : Outcome → List Text
-ids (LeasesExpired l) = l
-ids Applied = []
-ids (DeleteReserved p) = []
-ids (LeaseAcquired t) = []
-ids (LeaseRenewed t) = []
-ids (CollectionPrepared t) = []
-ids (CollectionPublished r) = []
-
 -- accepted, with these ids in its outcome, and no lease is left
 abbrev ends-all : List Text → Transition → Bool
 ends-all l (rejected n) = false
-ends-all l (accepted s o) = same-texts (ids o) l && is-empty (s .leases)
+ends-all l (accepted s o) = same-texts ((gives (some o)) .ids) l && is-empty (s .leases)
 
 abbrev test : (State → Bool) → Option State → Bool
 test p none = false
 test p (some s) = p s
+
+abbrev pub keys : {A : Type 0} → Map A → List Text
+keys m = keys-where (λ _. true) m
 
 pub data Row : Type 0 where
   answers : (before : List Action) (call : Action) (number : ℕ) → Row
@@ -66,7 +61,12 @@ pub data Row : Type 0 where
   floors : (before : List Action) (policy readable : ℕ) → Row
   ends : (before : List Action) (call : Action) (lease-ids : List Text) → Row
   collects : (before : List Action) (collected readable jobs : ℕ) → Row
-  validates : (state : State) (token : SnapshotLeaseToken) (number : ℕ) → Row
+  -- of the state with this change, as no call makes it
+  validates : (load : State → State) (token : SnapshotLeaseToken) (number : ℕ) → Row
+  -- the ids of the pins, as they stand
+  pins-are : (before : List Action) (ids : List Text) → Row
+  -- the one id comes before the other
+  precedes : (a b : Text) → Row
 
 abbrev pub holds : Row → Bool
 holds (answers before a n) = test (λ s. eqb (status (answer s a)) n) (run start before)
@@ -74,36 +74,39 @@ holds (answers-at c a n) = test (λ s. eqb (status (apply s a c no-faults)) n) s
 holds (floors before p r) = test (λ s. eqb (s .policy-floor) p && eqb (s .minimum-readable-version) r) (run start before)
 holds (ends before a l) = test (λ s. ends-all l (answer s a)) (run start before)
 holds (collects before c r j) = test (λ s. eqb (s .physically-collected-through) c && eqb (s .minimum-readable-version) r && eqb (length (s .collection-jobs)) j) (run start before)
-holds (validates s t n) = eqb (validate s t) n
+holds (validates load t n) = test (λ s. eqb (validate (load s) t) n) start
+holds (pins-are before ids) = test (λ s. same-texts (keys (s .pins)) ids) (run start before)
+holds (precedes a b) = side (orderOf a b) true false false
 
 -- WHAT THE ROWS NAME
 abbrev hash : Text
 hash = replicate 64 97
 
-abbrev manifest : ObjectReference
+abbrev pub manifest : ObjectReference
 manifest = record { kind = Manifest; key = 109 ∷ []; length = 1; sha256 = hash }
 
 abbrev key : Text
 key = 107 ∷ []
 
-abbrev closure : SnapshotClosure
+abbrev pub closure : SnapshotClosure
 closure = record { manifest = manifest; object-keys = key ∷ (109 ∷ []) ∷ [] }
 
-abbrev id : Text
+abbrev pub id : Text
 id = 105 ∷ []
 
-abbrev lease : (version deadline : ℕ) → Action
+abbrev pub lease : (version deadline : ℕ) → Action
 lease version deadline = AcquireLease id (116 ∷ []) version (111 ∷ []) (112 ∷ []) deadline closure
+
+-- what such a lease is given
+abbrev pub token : (version epoch deadline : ℕ) → SnapshotLeaseToken
+token version epoch deadline = record { lease-id = id; tenant-id = 116 ∷ []; snapshot-version = version; lease-epoch = epoch; owner = 111 ∷ []; purpose = 112 ∷ []; deadline-tick = deadline; closure = closure; owner-generation = 1; authority-position = record { term = 1; index = 1 } }
 
 abbrev reserve : (mark-epoch : ℕ) → Action
 reserve mark-epoch = ReserveDelete (112 ∷ []) mark-epoch key (record { revision = record { e-tag = none; version = none }; length = 1; sha256 = hash })
 
--- a lease with deadline 5, in a state whose clock is 5
-abbrev token : SnapshotLeaseToken
-token = record { lease-id = id; tenant-id = 116 ∷ []; snapshot-version = 7; lease-epoch = 1; owner = 111 ∷ []; purpose = 112 ∷ []; deadline-tick = 5; closure = closure; owner-generation = 1; authority-position = record { term = 1; index = 1 } }
-
-abbrev loaded : State
-loaded = set-leases (insert id token []) (set-lease-clock-tick 5 default)
+-- with a lease whose deadline is 5, and the clock at 5
+abbrev at-deadline : State → State
+at-deadline s = set-leases (insert id (token 7 1 5) (s .leases)) (set-lease-clock-tick 5 s)
 
 abbrev root : Text
 root = 114 ∷ []
@@ -119,6 +122,12 @@ collecting =
 
 abbrev collect : (frozen-floor : ℕ) → Action
 collect frozen-floor = PrepareCollection (106 ∷ []) frozen-floor manifest root 1 0 (111 ∷ 47 ∷ [])
+
+abbrev aa : Text
+aa = 97 ∷ 97 ∷ []
+
+abbrev b : Text
+b = 98 ∷ []
 
 abbrev pub table : List Row
 table =
@@ -141,8 +150,8 @@ table =
     -- E6: a lease at 8 and frontier 20; released
     ∷ floors (lease 8 9 ∷ ObserveCommittedFrontier 20 ∷ []) 17 8
     ∷ floors (lease 8 9 ∷ ObserveCommittedFrontier 20 ∷ ReleaseLease id 1 ∷ []) 17 17
-    -- E7: a loaded state with its clock at a lease's deadline
-    ∷ validates loaded token 4
+    -- E7: loaded with a lease whose deadline is the clock's tick
+    ∷ validates at-deadline (token 7 1 5) 4
     -- E8: collected 0, readable 7, no jobs, all else matching: frozen floor 7 and 8
     ∷ collects collecting 0 7 0
     ∷ answers collecting (collect 7) 0
@@ -154,8 +163,11 @@ table =
     ∷ answers-at (context 1 1 0) (ObserveCommittedFrontier 10) 2
     ∷ answers-at (context 0 1 1) (ObserveCommittedFrontier 10) 2
     ∷ answers-at (context 1 0 1) (ObserveCommittedFrontier 10) 0
+    -- ids ascend by their bytes, not by their length: aa, then b
+    ∷ precedes aa b
+    ∷ pins-are (Pin b none manifest ∷ Pin aa none manifest ∷ []) (aa ∷ b ∷ [])
     ∷ []
 
 pub edges : all holds table ≡ true
-unfolding orderOf sameOf prefixOf within hexOf allHex sha256Of all any lookup insert remove remove-all any-value keys-where endsWithOf same-texts every reference-eq lease-eq closure-eq position-eq valid-context valid-identity valid-reference valid-intent valid-closure decide up oldest policy-for readable-for moved observe-committed-frontier set-retention-window observe-range-map-epoch configure-collection-root acquire-lease release-lease advance-lease-clock conflicts prepare-collection prepare intent-matches publish reserve-delete act rule stamp apply validate-found validate
+unfolding machine-computes
 edges = refl

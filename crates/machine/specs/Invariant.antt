@@ -16,9 +16,9 @@ use Rattle.machine.specs.Actions.{Action, ObserveCommittedFrontier, SetR
 use Rattle.machine.specs.Next.{top, up, oldest, policy-for, readable-for, moved, expired}
 use Rattle.machine.specs.Machine.{observe-committed-frontier, set-retention-window, observe-range-map-epoch, configure-collection-root, acquire-lease, renew-lease, release-lease, advance-lease-clock, prepare-collection, publish-collection, abandon-collection, prepare, publish, pin, unpin, reserve-delete, retire-delete, act}
 use Rattle.machine.specs.ApplyLaws.{Accepts}
-use Rattle.machine.specs.Ledger.{took, permit-in, Lease, Ledger, note}
+use Rattle.machine.specs.Ledger.{took, gives, Lease, Ledger, note}
 use Rattle.machine.specs.Claims.{Five, five-of, Rises, Ordered}
-use Rattle.machine.specs.Linked.{Linked, raise, linked-live, begin-linked, renew-linked, end-linked, end-all-linked}
+use Rattle.machine.specs.LedgerLaws.{Linked, raise, linked-live, begin-linked, renew-linked, end-linked, end-all-linked}
 
 -- THE CORE of a state: what the claims rest on. Most actions leave it as it is, by computation.
 pub record Core : Type 0 where
@@ -145,13 +145,20 @@ plain k = (k, tt)
 module _ {n : ℕ} (few : n < top) {L : Ledger} (s : State) (i : Inv n (core s) L) where
   -- what the acceptances of an action keep
   abbrev pub Keeps : Action → State → Outcome → Type 0
-  Keeps a s′ o = Kept n (core s) (core s′) (note (took a o) L) × Permits L (permit-in o)
+  Keeps a s′ o = Kept n (core s) (core s′) (note (took (some a) (some o)) L) × Permits L ((gives (some o)) .permit)
 
   frontier-keeps : (f : ℕ) → Accepts (Keeps (ObserveCommittedFrontier f)) (observe-committed-frontier s f)
   unfolding observe-committed-frontier
   frontier-keeps f = λ _ up. plain floored _ _ (
       let g = i .good in let ord = g .ordered in let le : s .observed-commit-frontier ≤ f = ltb-false _ _ up in
-      record { inv = record { good = record { format-1 = g .format-1; ordered = omega arith; lease-ok = λ id t h. let l = g .lease-ok id t h in record { own-id = l .own-id; above = l .above; below = omega arith; in-time = l .in-time }; job-ok = g .job-ok }; linked = i .linked; count = omega arith }; rises = omega arith })
+      record {
+        inv = record {
+          good = record { format-1 = g .format-1; ordered = omega arith; lease-ok = λ id t h. let l = g .lease-ok id t h in record { own-id = l .own-id; above = l .above; below = omega arith; in-time = l .in-time }; job-ok = g .job-ok };
+          linked = i .linked;
+          count = omega arith;
+        };
+        rises = omega arith;
+      })
 
   window-keeps : (e w : ℕ) → Accepts (Keeps (SetRetentionWindow e w)) (set-retention-window s e w)
   unfolding set-retention-window
@@ -176,7 +183,7 @@ module _ {n : ℕ} (few : n < top) {L : Ledger} (s : State) (i : Inv n (core s) 
       record {
         inv = record {
           good = record { format-1 = g .format-1; ordered = g .ordered; lease-ok = found-insert (LeaseOk _ _ _) id _ (s .leases) (record { own-id = refl; above = above; below = below; in-time = in-time }) (g .lease-ok); job-ok = g .job-ok };
-          linked = begin-linked _ id v c _ (i .linked) (is-none _ new) (omega arith) (omega arith) (record { its-id = refl; no-newer = omega arith }) refl refl;
+          linked = begin-linked _ id v c _ (i .linked) (is-none _ new) (omega arith) (omega arith) (record { its-id = refl; its-version = refl; its-closure = refl; no-newer = omega arith });
           count = omega (arith, i .count);
         };
         rises = omega arith;
@@ -192,7 +199,7 @@ module _ {n : ℕ} (few : n < top) {L : Ledger} (s : State) (i : Inv n (core s) 
       record {
         inv = record {
           good = record { format-1 = g .format-1; ordered = g .ordered; lease-ok = found-insert (LeaseOk _ _ _) id _ (s .leases) (record { own-id = ok .own-id; above = ok .above; below = ok .below; in-time = in-time }) (g .lease-ok); job-ok = g .job-ok };
-          linked = renew-linked _ id old _ (i .linked) at (omega arith) (omega arith) (record { its-id = ok .own-id; no-newer = omega arith }) refl refl;
+          linked = renew-linked _ id old _ (i .linked) at (omega arith) (omega arith) (record { its-id = ok .own-id; its-version = refl; its-closure = refl; no-newer = omega arith });
           count = omega (arith, i .count);
         };
         rises = omega arith;
@@ -306,8 +313,8 @@ module _ {n : ℕ} (few : n < top) {L : Ledger} (s : State) (i : Inv n (core s) 
   reserve-keeps p e k x c = λ _ _ _ _ _ unnamed _ _. (
     quiet i,
     λ id l h.
-        let w = any-value-false (λ t. names (t .closure) k) (s .leases) id (l .last) unnamed (linked-live id l (i .linked) h) in
-        rw (← i .linked .live-ok id l h .its-closure) w,
+        let w = linked-live id l (i .linked) h in
+        rw (← w .ok .its-closure) (any-value-false (λ t. names (t .closure) k) (s .leases) id (w .token) unnamed (w .stored)),
   )
 
   retire-keeps : (p : DeletePermit) (c : ℕ) → Accepts (Keeps (RetireDelete p)) (retire-delete s p c no-faults)

@@ -7,54 +7,41 @@ use Rattle.state.specs.Maps.{Text, Map, lookup, insert, remove}
 use Rattle.state.specs.Records.{SnapshotClosure, SnapshotLeaseToken, DeletePermit}
 use Rattle.machine.specs.Actions.{Action, ObserveCommittedFrontier, SetRetentionWindow, ObserveRangeMapEpoch, ConfigureCollectionRoot, AcquireLease, RenewLease, ReleaseLease, AdvanceLeaseClock, PrepareCollection, PublishCollection, AbandonCollection, Prepare, Publish, Pin, Unpin, ReserveDelete, RetireDelete, Outcome, Applied, DeleteReserved, LeaseAcquired, LeaseRenewed, LeasesExpired, CollectionPrepared, CollectionPublished}
 
--- EVENTS: a call is refused, whatever the number, or accepted
+-- EVENTS: a call is refused, whatever the number, or accepted, whatever it asked and answered: each is there if it can be read.
 pub data Event : Type 0 where
   refused : Event
-  took : (action : Action) (outcome : Outcome) → Event
+  took : (asked : Option Action) (answered : Option Outcome) → Event
 
--- what an outcome holds: a lease token, the ids of ended leases, a delete permit
-abbrev pub token-in : Outcome → Option SnapshotLeaseToken
-token-in (LeaseAcquired t) = some t
-token-in (LeaseRenewed t) = some t
-token-in Applied = none
-token-in (DeleteReserved p) = none
-token-in (LeasesExpired ids) = none
-token-in (CollectionPrepared t) = none
-token-in (CollectionPublished r) = none
+-- what an outcome gives: a lease token, the ids of ended leases, a delete permit
+pub record Gift : Type 0 where
+  pub token : Option SnapshotLeaseToken
+  pub ids : List Text
+  pub permit : Option DeletePermit
 
-abbrev pub ids-in : Outcome → List Text
-ids-in (LeasesExpired ids) = ids
-ids-in Applied = []
-ids-in (DeleteReserved p) = []
-ids-in (LeaseAcquired t) = []
-ids-in (LeaseRenewed t) = []
-ids-in (CollectionPrepared t) = []
-ids-in (CollectionPublished r) = []
+abbrev pub gift : Option SnapshotLeaseToken → List Text → Option DeletePermit → Gift
+gift t ids p = record { token = t; ids = ids; permit = p }
 
-abbrev pub permit-in : Outcome → Option DeletePermit
-permit-in (DeleteReserved p) = some p
-permit-in Applied = none
-permit-in (LeaseAcquired t) = none
-permit-in (LeaseRenewed t) = none
-permit-in (LeasesExpired ids) = none
-permit-in (CollectionPrepared t) = none
-permit-in (CollectionPublished r) = none
+abbrev pub gives : Option Outcome → Gift
+gives (some (DeleteReserved p)) = gift none [] (some p)
+gives (some (LeaseAcquired t)) = gift (some t) [] none
+gives (some (LeaseRenewed t)) = gift (some t) [] none
+gives (some (LeasesExpired ids)) = gift none ids none
+gives (some Applied) = gift none [] none
+gives (some (CollectionPrepared t)) = gift none [] none
+gives (some (CollectionPublished r)) = gift none [] none
+gives none = gift none [] none
 
 -- the delete permit that a call issues
 abbrev pub issued : Event → Option DeletePermit
 issued refused = none
-issued (took a o) = permit-in o
+issued (took a o) = (gives o) .permit
 
 -- THE LEDGER
--- A lease: version and closure are those of the request that began it; its tokens, the newest apart.
+-- A lease: version and closure are those of the request that began it; its tokens, newest first.
 pub record Lease : Type 0 where
   pub version : ℕ
   pub closure : SnapshotClosure
-  pub last : SnapshotLeaseToken
-  pub earlier : List SnapshotLeaseToken
-
-abbrev pub tokens : Lease → List SnapshotLeaseToken
-tokens l = l .last ∷ l .earlier
+  pub tokens : List SnapshotLeaseToken
 
 -- the live leases under their ids, and all tokens of the leases that have ended
 pub record Ledger : Type 0 where
@@ -64,32 +51,41 @@ pub record Ledger : Type 0 where
 abbrev pub empty : Ledger
 empty = record { live = []; ended = [] }
 
-abbrev pub with-token : SnapshotLeaseToken → Lease → Lease
-with-token t l = record { version = l .version; closure = l .closure; last = t; earlier = tokens l }
+-- An acceptance that gives no token adds none.
+abbrev pub add : Option SnapshotLeaseToken → List SnapshotLeaseToken → List SnapshotLeaseToken
+add none ts = ts
+add (some t) ts = t ∷ ts
 
--- An accepted AcquireLease begins a lease where none is live under the id; where one is, its token is one more of that lease.
-abbrev pub begun : ℕ → SnapshotClosure → SnapshotLeaseToken → Option Lease → Lease
-begun v c t none = record { version = v; closure = c; last = t; earlier = [] }
-begun v c t (some l) = with-token t l
+abbrev pub with-token : Option SnapshotLeaseToken → Lease → Lease
+with-token t l = record { version = l .version; closure = l .closure; tokens = add t (l .tokens) }
 
-abbrev pub begin : Text → ℕ → SnapshotClosure → SnapshotLeaseToken → Ledger → Ledger
-begin id v c t L = record { live = insert id (begun v c t (lookup id (L .live))) (L .live); ended = L .ended }
+abbrev pub put : Text → Lease → Ledger → Ledger
+put id l L = record { live = insert id l (L .live); ended = L .ended }
+
+-- An accepted AcquireLease begins a lease where none is live under the id, with or without a token; where one is, that one stays, and a
+-- token given is one more of it.
+abbrev pub begun : ℕ → SnapshotClosure → Option Lease → Lease
+begun v c none = record { version = v; closure = c; tokens = [] }
+begun v c (some l) = l
+
+abbrev pub begin : Text → ℕ → SnapshotClosure → Option SnapshotLeaseToken → Ledger → Ledger
+begin id v c t L = put id (with-token t (begun v c (lookup id (L .live)))) L
 
 -- An accepted RenewLease gives the live lease under its id a token.
-abbrev pub renew-found : Text → SnapshotLeaseToken → Option Lease → Ledger → Ledger
-renew-found id t none L = L
-renew-found id t (some l) L = record { live = insert id (with-token t l) (L .live); ended = L .ended }
+abbrev pub renew-found : Text → Option Lease → Option SnapshotLeaseToken → Ledger → Ledger
+renew-found id none t L = L
+renew-found id (some l) t L = put id (with-token t l) L
 
-abbrev pub renew : Text → SnapshotLeaseToken → Ledger → Ledger
-renew id t L = renew-found id t (lookup id (L .live)) L
+abbrev pub renew : Text → Option SnapshotLeaseToken → Ledger → Ledger
+renew id t L = renew-found id (lookup id (L .live)) t L
 
 -- A lease ends by an accepted release of its id, or an accepted AdvanceLeaseClock that lists its id.
-abbrev pub given : Option Lease → List SnapshotLeaseToken
-given none = []
-given (some l) = tokens l
+abbrev pub tokens-of : Option Lease → List SnapshotLeaseToken
+tokens-of none = []
+tokens-of (some l) = l .tokens
 
 abbrev pub end : Text → Ledger → Ledger
-end id L = record { live = remove id (L .live); ended = given (lookup id (L .live)) ++ L .ended }
+end id L = record { live = remove id (L .live); ended = tokens-of (lookup id (L .live)) ++ L .ended }
 
 unfoldable pub end-all : List Text → Ledger → Ledger
 end-all [] L = L
@@ -103,38 +99,37 @@ pub data Says : Type 0 where
   ticks : Says
   nothing : Says
 
-abbrev pub says : Action → Says
-says (AcquireLease id tenant version owner purpose deadline closure) = begins id version closure
-says (RenewLease id epoch deadline) = renews id
-says (ReleaseLease id epoch) = releases id
-says (AdvanceLeaseClock expected next) = ticks
-says (ObserveCommittedFrontier n) = nothing
-says (SetRetentionWindow e w) = nothing
-says (ObserveRangeMapEpoch e) = nothing
-says (ConfigureCollectionRoot e r) = nothing
-says (PrepareCollection j f i d r e n) = nothing
-says (PublishCollection r) = nothing
-says (AbandonCollection t) = nothing
-says (Prepare p i) = nothing
-says (Publish p d e m) = nothing
-says (Pin p e m) = nothing
-says (Unpin p e) = nothing
-says (ReserveDelete p m k i) = nothing
-says (RetireDelete p) = nothing
+abbrev pub says : Option Action → Says
+says (some (AcquireLease id tenant version owner purpose deadline closure)) = begins id version closure
+says (some (RenewLease id epoch deadline)) = renews id
+says (some (ReleaseLease id epoch)) = releases id
+says (some (AdvanceLeaseClock expected next)) = ticks
+says (some (ObserveCommittedFrontier n)) = nothing
+says (some (SetRetentionWindow e w)) = nothing
+says (some (ObserveRangeMapEpoch e)) = nothing
+says (some (ConfigureCollectionRoot e r)) = nothing
+says (some (PrepareCollection j f i d r e n)) = nothing
+says (some (PublishCollection r)) = nothing
+says (some (AbandonCollection t)) = nothing
+says (some (Prepare p i)) = nothing
+says (some (Publish p d e m)) = nothing
+says (some (Pin p e m)) = nothing
+says (some (Unpin p e)) = nothing
+says (some (ReserveDelete p m k i)) = nothing
+says (some (RetireDelete p)) = nothing
+says none = nothing
 
--- the ledger after what was said, with the token and the ids of the outcome
-abbrev pub record-said : Says → Option SnapshotLeaseToken → List Text → Ledger → Ledger
-record-said nothing t ids L = L
-record-said (releases id) t ids L = end id L
-record-said ticks t ids L = end-all ids L
-record-said (begins id v c) none ids L = L
-record-said (begins id v c) (some t) ids L = begin id v c t L
-record-said (renews id) none ids L = L
-record-said (renews id) (some t) ids L = renew id t L
+-- the ledger after what was said and given
+abbrev pub record-said : Says → Gift → Ledger → Ledger
+record-said (begins id v c) g L = begin id v c (g .token) L
+record-said (renews id) g L = renew id (g .token) L
+record-said (releases id) g L = end id L
+record-said ticks g L = end-all (g .ids) L
+record-said nothing g L = L
 
 abbrev pub note : Event → Ledger → Ledger
 note refused L = L
-note (took a o) L = record-said (says a) (token-in o) (ids-in o) L
+note (took a o) L = record-said (says a) (gives o) L
 
 abbrev pub after : Ledger → List Event → Ledger
 after L [] = L
@@ -144,5 +139,6 @@ after L (e ∷ es) = after (note e L) es
 pub record Last (t : SnapshotLeaseToken) (L : Ledger) : Type 0 where
   pub id : Text
   pub lease : Lease
+  pub earlier : List SnapshotLeaseToken
   pub live-now : lookup id (L .live) ≡ some lease
-  pub is-last : lease .last ≡ t
+  pub is-last : lease .tokens ≡ t ∷ earlier

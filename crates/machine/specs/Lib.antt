@@ -3,10 +3,11 @@ pub mod Actions
 pub mod Next
 pub mod Machine
 pub mod ApplyLaws
+pub mod Computes
 pub mod Edges
 pub mod Ledger
 pub mod Claims
-pub mod Linked
+pub mod LedgerLaws
 pub mod Invariant
 pub mod History
 pub mod Formed

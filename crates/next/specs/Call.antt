@@ -22,6 +22,7 @@ use Rattle.image.specs.declared.Contents.{Contents}
 use Rattle.requests.specs.Request.{decodeRequest, encodeRequest, WithinRequest}
 use Rattle.requests.specs.Outcome.{encodeOutcome}
 use Rattle.requests.specs.Meaning.{contextOf, faultsOf, actionOf, requestOf}
+use Rattle.requests.specs.Positions.{requestIn}
 use Rattle.requests.specs.declared.Request.{Request as RequestAt}
 use Rattle.entries.specs.Bytes.{settled, applyBytes}
 use Rattle.next.specs.Head.{headParts, overLimit}
@@ -39,6 +40,7 @@ pub record Ready (x : List ℕ) (c : Contents) (q : List ℕ) (r : RequestAt) : 
   pub opened : c ≡ contentsOf state
   pub asked : decodeRequest q ≡ answer (requestOf q r)
   pub request-is : q ≡ encodeRequest (requestOf q r)
+  pub placed : r ≡ requestIn q
   pub within : WithinRequest (requestOf q r)
   pub format : eqb (state .format-version) 1 ≡ true
   pub valid : valid-context (contextOf (r .context)) ≡ true
@@ -57,13 +59,13 @@ module _ {x : List ℕ} {c : Contents} {q : List ℕ} {r : RequestAt} (ready : R
       gave-no n (answered (length d) (length e) ∙ ap (λ (t : Transition). settled (length d) (length e) (answer t))
       (apply-rejects (ready .state) (actionOf q (r .action)) (contextOf (r .context)) (faultsOf (r .faults)) (ready .format) (ready .valid) n h)) k
 
-  pub done : {d e d′ e′ : List ℕ} {p : Applied} (t : State) (o : Outcome) (source : ℕ) (c′ : Contents) (body : List ℕ) (told : PublicationOutcome) → ruled ≡ accepted t o
+  pub done : {d e d′ e′ : List ℕ} {p : Applied} (t : State) (o : Outcome) (source : ℕ) (c′ : Contents) (body stored : List ℕ) (told : PublicationOutcome) → ruled ≡ accepted t o
       → Shows x q source c′ (set-revision (contextOf (r .context) .position) t)
       → gatherOf x q body ≡ from-intents t
-      → outcomeBytes x q told ≡ encodeOutcome o
-      → Emitted x q body d e d′ e′ p (overLimit c′) (headParts source c′) (outcomeBytes x q told)
+      → outcomeBytes stored q told ≡ encodeOutcome o
+      → Emitted x q body d e d′ e′ p (overLimit c′) (headParts source c′) (outcomeBytes stored q told)
       → Gave (applyBytes x q (length d) (length e)) d e p d′ e′
-  done {d} {e} {d′} {e′} {p} t o source c′ body told h sh b w g =
+  done {d} {e} {d′} {e′} {p} t o source c′ body stored told h sh b w g =
       subst (λ (a : Answer). Gave a d e p d′ e′)
       (sym (answered (length d) (length e)
       ∙ ap (λ (u : Transition). settled (length d) (length e) (answer u)) (apply-accepts (ready .state) (actionOf q (r .action)) (contextOf (r .context)) (faultsOf (r .faults)) (ready .format) (ready .valid) t o h)

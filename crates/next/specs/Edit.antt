@@ -1,10 +1,10 @@
 -- A change by id of one table of the image: what stands at the place, the runs around it, and the table's size and count after it.
-use Prim.Native.Nat.{ℕ, suc, _+_, _-_, _≤_, _<_}
+use Prim.Native.Nat.{ℕ, suc, _+_, _-_, _≤_, _<_, min}
 use native.Mathlib.Omega.{arith}
 use mathlib.Core.List.{List, [], _∷_, _++_, append-assoc}
 use mathlib.Core.Option.{none, some}
 use mathlib.Core.Path.{_≡_, refl, sym, ap, _∙_}
-use lib.ListN.{length, drop, length-append, length-drop}
+use lib.ListN.{length, drop, length-append, length-drop, length-take}
 use Rattle.text.specs.Order.{orderOf}
 use Rattle.text.specs.OrderLaws.{order-equal}
 use Rattle.text.specs.declared.Order.the-variants.{Less, Equal, Greater}
@@ -14,7 +14,7 @@ use Rattle.state.specs.Sorted.{Ascending}
 use Rattle.state.specs.Places.{ahead, at, behind, split-is, insert-is, remove-is, first-value, lookup-is}
 use Rattle.fields.specs.Format.{all}
 use Rattle.fields.specs.Codes.{Code}
-use Rattle.tables.specs.Seek.{seek, placed}
+use Rattle.tables.specs.Seek.{Seen, seek, placed}
 use Rattle.tables.specs.SeekLaws.{Hopped}
 use Rattle.tables.specs.declared.Place.{Place}
 use Rattle.image.specs.Body.{row}
@@ -22,7 +22,20 @@ use Rattle.image.specs.Tables.{bytes-split, bytes-insert, bytes-remove}
 use Rattle.image.specs.Stored.{find-place}
 use Rattle.next.specs.Kept.{run-rest, run-to, after-seam}
 
--- ---- the code lists of the tables
+-- ---- the row that was found at a place: it has a byte just where its end is past its start
+
+module _ (x : List ℕ) (seen : Seen) (p : Place) (found : p ≡ placed x seen) (row : List ℕ) (e : row ≡ run x (p .start) (p .end - p .start)) where
+  row-length : (length row ≡ min (p .end - p .start) (length x - p .start)) × (p .end ≤ length x)
+  row-length = (ap length e ∙ length-take (p .end - p .start) (drop (p .start) x) ∙ ap (min (p .end - p .start)) (length-drop (p .start) x), omega (arith, ap (λ (y : Place). y .end) found))
+
+  pub row-size : length row ≡ p .end - p .start
+  row-size = omega (arith, row-length .0, row-length .1)
+
+  pub row-none : length row ≡ 0 → p .end ≤ p .start
+  row-none h = omega (arith, row-length .0, row-length .1)
+
+  pub row-some : (length row ≡ 0 → ⊥) → p .start < p .end
+  row-some h = let n : (p .end - p .start ≡ 0) → ⊥ = λ z. h (omega (arith, row-length .0)) in omega (arith, row-length .1)
 
 -- ---- what stands under a key
 

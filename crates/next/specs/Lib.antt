@@ -10,3 +10,4 @@ pub mod Edit
 pub mod Due
 pub mod Added
 pub mod Outcome
+pub mod AskedPlaces

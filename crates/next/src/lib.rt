@@ -12,47 +12,16 @@ ghost use Rattle.parts.specs.Gather.{gatherOf, Filled};
 ghost use Rattle.next.specs.Head.{windowFlag, windowValue, windowWidth, rootFlag, rootStart, rootWidth, headParts, overLimit, Small, withScalars};
 ghost use Rattle.next.specs.Due.{due, endedIds};
 ghost use Rattle.next.specs.Added.{Added};
-ghost use Rattle.next.specs.Outcome.{permitParts, acquiredParts, renewedParts, preparedParts, ExpiredAs, outcomeBytes, Fits};
+ghost use Rattle.next.specs.Outcome.{PermitEnds, AcquiredEnds, RenewedEnds, JobEnds, ReceiptEnds, permitParts, acquiredParts, renewedParts, preparedParts, publishedParts, ExpiredAs, outcomeBytes, Fits};
 use image::Contents;
 use image::MaybeNumber;
 use image::MaybeText;
 use image::Scalars;
 use parts::Applied;
-use requests::AuthorityPosition;
-
-// Bytes as they stand in the image or in the request, the length bytes of their texts among them.
-pub struct Span {
-    pub at: usize,
-    pub len: usize,
-}
-
-// A permit: key and identity, and plan_id, stand in the request.
-pub struct DeleteReserved {
-    pub key_and_identity: Span,
-    pub plan_id: Span,
-    pub owner_generation: u64,
-    pub authority_position: AuthorityPosition,
-}
-
-// A token: lease_id to snapshot_version, and owner to closure, stand in the request.
-pub struct LeaseAcquired {
-    pub to_version: Span,
-    pub lease_epoch: u64,
-    pub from_owner: Span,
-    pub owner_generation: u64,
-    pub authority_position: AuthorityPosition,
-}
-
-// A token: lease_id to snapshot_version, owner and purpose, and closure stand in the image.
-pub struct LeaseRenewed {
-    pub to_version: Span,
-    pub lease_epoch: u64,
-    pub owner_and_purpose: Span,
-    pub deadline_tick: u64,
-    pub closure: Span,
-    pub owner_generation: u64,
-    pub authority_position: AuthorityPosition,
-}
+use requests::CollectionJobToken;
+use requests::CollectionReceipt;
+use requests::DeletePermit;
+use requests::SnapshotLeaseToken;
 
 // The ids of the leases that end at a tick: where the leases stand in the image, how many they are, and how many end.
 pub struct LeasesExpired {
@@ -62,28 +31,16 @@ pub struct LeasesExpired {
     pub ended: usize,
 }
 
-// A token: job_id, and frozen_floor to output_namespace, stand in the request.
-pub struct CollectionPrepared {
-    pub job_id: Span,
-    pub owner_generation: u64,
-    pub authority_position: AuthorityPosition,
-    pub from_floor: Span,
-}
-
-// All of the receipt stands in the request.
-pub struct CollectionPublished {
-    pub receipt: Span,
-}
-
-// What an accepted action tells; `outcomeBytes` gives each case its number and its fields.
+// What an accepted action tells: numbers, and where texts and keys stand, in the request or, of a lease that is renewed or of
+// leases that end, in what is stored. `outcomeBytes` gives each case its number and its fields.
 pub enum PublicationOutcome {
     Applied,
-    DeleteReserved(DeleteReserved),
-    LeaseAcquired(LeaseAcquired),
-    LeaseRenewed(LeaseRenewed),
+    DeleteReserved(DeletePermit),
+    LeaseAcquired(SnapshotLeaseToken),
+    LeaseRenewed(SnapshotLeaseToken),
     LeasesExpired(LeasesExpired),
-    CollectionPrepared(CollectionPrepared),
-    CollectionPublished(CollectionPublished),
+    CollectionPrepared(CollectionJobToken),
+    CollectionPublished(CollectionReceipt),
 }
 
 fn window_flag(w: MaybeNumber) -> usize
@@ -299,21 +256,28 @@ fn head(source: usize, c: Contents) -> [usize; 111]
     ]
 }
 
-// The parts of each outcome: its number, and then its fields.
-fn permit_parts(o: DeleteReserved) -> [usize; 18]
+// The parts of each outcome: its number, and then its fields. Fields that stand side by side, as they do in the request that
+// asks for them or in the lease that is renewed, are one run: it starts at the first one's length byte.
+fn permit_parts(o: DeletePermit) -> [usize; 18]
+    requires { ⌜ PermitEnds o ⌝ }
     ensures { λ r. ⌜ r ≡ 2 ∷ 1 ∷ 1 ∷ permitParts o ⌝ }
 {
+    let key = o.key;
+    let identity = o.identity;
+    let hash = identity.sha256;
+    let plan = o.plan_id;
     let p = o.authority_position;
+    let start = parts::less(key.at, 1);
     [
         2,
         1,
         1,
         1,
-        o.key_and_identity.at,
-        o.key_and_identity.len,
+        start,
+        parts::less(hash.at + hash.len, start),
         1,
-        o.plan_id.at,
-        o.plan_id.len,
+        parts::less(plan.at, 1),
+        plan.len + 1,
         2,
         o.owner_generation as usize,
         8,
@@ -326,23 +290,31 @@ fn permit_parts(o: DeleteReserved) -> [usize; 18]
     ]
 }
 
-fn acquired_parts(o: LeaseAcquired) -> [usize; 21]
+// In the request the epoch is not there: the version is followed by the owner.
+fn acquired_parts(o: SnapshotLeaseToken) -> [usize; 21]
+    requires { ⌜ AcquiredEnds o ⌝ }
     ensures { λ r. ⌜ r ≡ 2 ∷ 2 ∷ 1 ∷ acquiredParts o ⌝ }
 {
+    let id = o.lease_id;
+    let owner = o.owner;
+    let closure = o.closure;
+    let keys = closure.object_keys;
     let p = o.authority_position;
+    let start = parts::less(id.at, 1);
+    let rest = parts::less(owner.at, 1);
     [
         2,
         2,
         1,
         1,
-        o.to_version.at,
-        o.to_version.len,
+        start,
+        parts::less(rest, start),
         2,
         o.lease_epoch as usize,
         8,
         1,
-        o.from_owner.at,
-        o.from_owner.len,
+        rest,
+        parts::less(keys.at + keys.len, rest),
         2,
         o.owner_generation as usize,
         8,
@@ -355,29 +327,39 @@ fn acquired_parts(o: LeaseAcquired) -> [usize; 21]
     ]
 }
 
-fn renewed_parts(o: LeaseRenewed) -> [usize; 27]
+// In the lease that is renewed the old epoch stands before the owner, and the old deadline after the purpose.
+fn renewed_parts(o: SnapshotLeaseToken) -> [usize; 27]
+    requires { ⌜ RenewedEnds o ⌝ }
     ensures { λ r. ⌜ r ≡ 2 ∷ 3 ∷ 1 ∷ renewedParts o ⌝ }
 {
+    let id = o.lease_id;
+    let owner = o.owner;
+    let purpose = o.purpose;
+    let closure = o.closure;
+    let keys = closure.object_keys;
     let p = o.authority_position;
+    let start = parts::less(id.at, 1);
+    let rest = parts::less(owner.at, 1);
+    let deadline = purpose.at + purpose.len;
     [
         2,
         3,
         1,
         0,
-        o.to_version.at,
-        o.to_version.len,
+        start,
+        parts::less(rest, start + 8),
         2,
         o.lease_epoch as usize,
         8,
         0,
-        o.owner_and_purpose.at,
-        o.owner_and_purpose.len,
+        rest,
+        parts::less(deadline, rest),
         2,
         o.deadline_tick as usize,
         8,
         0,
-        o.closure.at,
-        o.closure.len,
+        deadline + 8,
+        parts::less(keys.at + keys.len, deadline + 8),
         2,
         o.owner_generation as usize,
         8,
@@ -390,17 +372,22 @@ fn renewed_parts(o: LeaseRenewed) -> [usize; 27]
     ]
 }
 
-fn prepared_parts(o: CollectionPrepared) -> [usize; 18]
+// In the request generation and position are not there: the id is followed by the floor.
+fn prepared_parts(o: CollectionJobToken) -> [usize; 18]
+    requires { ⌜ JobEnds o ⌝ }
     ensures { λ r. ⌜ r ≡ 2 ∷ 5 ∷ 1 ∷ preparedParts o ⌝ }
 {
+    let id = o.job_id;
+    let namespace = o.output_namespace;
     let p = o.authority_position;
+    let rest = id.at + id.len;
     [
         2,
         5,
         1,
         1,
-        o.job_id.at,
-        o.job_id.len,
+        parts::less(id.at, 1),
+        id.len + 1,
         2,
         o.owner_generation as usize,
         8,
@@ -411,9 +398,20 @@ fn prepared_parts(o: CollectionPrepared) -> [usize; 18]
         p.index as usize,
         8,
         1,
-        o.from_floor.at,
-        o.from_floor.len,
+        rest,
+        parts::less(namespace.at + namespace.len, rest),
     ]
+}
+
+fn published_parts(o: CollectionReceipt) -> [usize; 6]
+    requires { ⌜ ReceiptEnds o ⌝ }
+    ensures { λ r. ⌜ r ≡ 2 ∷ 6 ∷ 1 ∷ publishedParts o ⌝ }
+{
+    let token = o.token;
+    let id = token.job_id;
+    let keys = o.object_keys;
+    let start = parts::less(id.at, 1);
+    [2, 6, 1, 1, start, parts::less(keys.at + keys.len, start)]
 }
 
 // The number that stands in the record at a place behind some of its fields.
@@ -465,19 +463,21 @@ fn expired_parts(s: &[u8], o: LeasesExpired) -> [usize; 198]
     parts
 }
 
-// The next image is the contents c and the tables that body gathers; the outcome is o.
+// The next image is the contents c and the tables that body gathers; the outcome is o, and `stored` is what a lease that is
+// renewed, or leases that end, stand in.
 pub fn emit(
     source: usize,
     c: Contents,
     image: &[u8],
     request: &[u8],
     body: &[usize],
+    stored: &[u8],
     o: PublicationOutcome,
     next: &mut [u8],
     outcome: &mut [u8],
 ) -> Applied
-    requires { ⌜ Small c × Fits o ⌝ }
-    ensures { λ r. ⌜ Gave (settle (overLimit c) (gatherOf (now (image .entry)) (now (request .entry)) (headParts source c) ++ gatherOf (now (image .entry)) (now (request .entry)) (now (body .entry))) (outcomeBytes (now (image .entry)) (now (request .entry)) o) (length (now (next .entry))) (length (now (outcome .entry))))
+    requires { ⌜ Small c × Fits (now stored) (now request) o ⌝ }
+    ensures { λ r. ⌜ Gave (settle (overLimit c) (gatherOf (now (image .entry)) (now (request .entry)) (headParts source c) ++ gatherOf (now (image .entry)) (now (request .entry)) (now (body .entry))) (outcomeBytes (now (stored .entry)) (now (request .entry)) o) (length (now (next .entry))) (length (now (outcome .entry))))
         (now (next .entry)) (now (outcome .entry)) r (now (next .exit)) (now (outcome .exit)) ⌝ }
 {
     let h = head(source, c);
@@ -485,27 +485,28 @@ pub fn emit(
     match o {
         PublicationOutcome::Applied => {
             let told = [2, 0, 1];
-            parts::emit(over, image, request, &h, body, &told, next, outcome)
+            parts::emit(over, image, request, stored, &h, body, &told, next, outcome)
         }
         PublicationOutcome::DeleteReserved(permit) => {
             let told = permit_parts(permit);
-            parts::emit(over, image, request, &h, body, &told, next, outcome)
+            parts::emit(over, image, request, stored, &h, body, &told, next, outcome)
         }
         PublicationOutcome::LeaseAcquired(token) => {
             let told = acquired_parts(token);
-            parts::emit(over, image, request, &h, body, &told, next, outcome)
+            parts::emit(over, image, request, stored, &h, body, &told, next, outcome)
         }
         PublicationOutcome::LeaseRenewed(token) => {
             let told = renewed_parts(token);
-            parts::emit(over, image, request, &h, body, &told, next, outcome)
+            parts::emit(over, image, request, stored, &h, body, &told, next, outcome)
         }
         PublicationOutcome::LeasesExpired(leases) => {
-            let told = expired_parts(image, leases);
+            let told = expired_parts(stored, leases);
             let used = 3 * (leases.count + 2);
             parts::emit(
                 over,
                 image,
                 request,
+                stored,
                 &h,
                 body,
                 &told[0..used],
@@ -515,11 +516,11 @@ pub fn emit(
         }
         PublicationOutcome::CollectionPrepared(token) => {
             let told = prepared_parts(token);
-            parts::emit(over, image, request, &h, body, &told, next, outcome)
+            parts::emit(over, image, request, stored, &h, body, &told, next, outcome)
         }
-        PublicationOutcome::CollectionPublished(o) => {
-            let told = [2, 6, 1, 1, o.receipt.at, o.receipt.len];
-            parts::emit(over, image, request, &h, body, &told, next, outcome)
+        PublicationOutcome::CollectionPublished(receipt) => {
+            let told = published_parts(receipt);
+            parts::emit(over, image, request, stored, &h, body, &told, next, outcome)
         }
     }
 }

@@ -1,9 +1,17 @@
 // Steps the authority from its default state by the frames of standard input: a length of 4 bytes, and a request.
 // Prints a header, a line for each frame, and `end`, or `end bad` at a frame that is cut or longer than 8,192 bytes.
+ghost use mathlib.Core.Path.{_≡_};
+ghost use Prim.Native.Nat.{_+_, _-_, _^_, _<_, _≤_};
+ghost use lib.ListN.{length, take};
+ghost use Rattle.parts.specs.Answer.{imageOf};
+ghost use Rattle.parts.specs.Over.{over};
+ghost use Rattle.okvstep.specs.Moments.{room, outcome-room, answered, Moment, lineOf, steppedOf};
 use image::Opened;
-use image::Scalars;
 use libc::STDIN_FILENO;
 use libc::STDOUT_FILENO;
+
+// A run steps no more frames than the claims of a history speak of: fewer than 2^64 - 1.
+const MOST_FRAMES: u64 = 18446744073709551614;
 
 fn write(s: &[u8]) {
     io::write_all(STDOUT_FILENO, s);
@@ -13,30 +21,37 @@ fn write_number(n: u64) {
     io::print_decimal(STDOUT_FILENO, n);
 }
 
-fn write_field(n: u64) {
-    write(b" ");
-    write_number(n);
-}
-
-fn write_line(step: u64, status: u32, n: Scalars) {
-    write_number(step);
-    write_field(status as u64);
-    write_field(n.observed_commit_frontier);
-    write_field(n.policy_floor);
-    write_field(n.minimum_readable_version);
-    write_field(n.physically_collected_through);
-    write_field(n.lease_clock_tick);
-    write_field(n.root_intent_epoch);
+// The fields of a line in their order, one space apart.
+fn write_line(line: [u64; 8]) {
+    write_number(line[0]);
+    let mut i = 1;
+    while i < 8 {
+        write(b" ");
+        write_number(line[i]);
+        i += 1;
+    }
     write(b"\n");
 }
 
-// The line of a frame, with the numbers of the state after it.
-fn write_step(step: u64, status: u32, image: &[u8]) {
+// The line of a frame, with the numbers of the state that the image holds: there is one at every moment.
+fn line_of(frame: u64, status: u32, image: &[u8]) -> [u64; 8]
+    ensures { λ r. ⌜ r ≡ lineOf frame status (now (image .entry)) ⌝ }
+{
     let o = image::open(image);
-    match o {
-        Opened::Image(c) => write_line(step, status, c.scalars),
-        Opened::NotAnImage => write(b"no image\n"),
-    }
+    let Opened::Image(c) = o else {
+        return [frame, status as u64, 0, 0, 0, 0, 0, 0];
+    };
+    let n = c.scalars;
+    [
+        frame,
+        status as u64,
+        n.observed_commit_frontier,
+        n.policy_floor,
+        n.minimum_readable_version,
+        n.physically_collected_through,
+        n.lease_clock_tick,
+        n.root_intent_epoch,
+    ]
 }
 
 // What is read next: so many, none at the end of the input, or that it is cut or too long.
@@ -70,58 +85,87 @@ fn read_frame(frame: &mut [u8]) -> Frame {
     Frame::Request(size)
 }
 
-// The next image becomes the image.
-fn keep(image: &mut [u8], next: &[u8]) {
-    let mut i = 0;
-    while i < image.len() {
-        if next.len() <= i {
-            return;
-        }
-        image[i] = next[i];
-        i += 1;
-    }
+// The first n bytes of the next image become those of the image.
+fn keep(image: &mut [u8], next: &[u8], n: usize)
+    requires { ⌜ n ≤ length (now image) ⌝ }
+    ensures { λ r. ⌜ now (image .exit) ≡ over (now (image .entry)) 0 (take n (now (next .entry))) ⌝ }
+{
+    let part = [0, 0, n];
+    parts::write(next, b"", &part, image);
 }
 
-// One request: the size of the image after it.
+// What a frame gives: the size of the image after it, and its line.
+struct Stepped {
+    size: usize,
+    line: [u64; 8],
+}
+
+// One request, on the image that the frames before it left: it leaves the image that the next one is stepped on.
 fn step(
-    count: u64,
+    frames: u64,
     size: usize,
     request: &[u8],
     image: &mut [u8],
     next: &mut [u8],
     outcome: &mut [u8],
-) -> usize {
+) -> Stepped
+    requires lent { ⌜ (length (now image) ≡ room) × (length (now next) ≡ room) × (length (now outcome) ≡ outcome-room) × (size ≤ room) × (frames < 2 ^ 64 - 1) ⌝ }
+    requires moment { ⌜ Moment frames (take size (now image)) ⌝ }
+    ensures answer { λ r. ⌜ r ≡ steppedOf (frames + 1) (take size (now (image .entry))) (answered (take size (now (image .entry))) (now (request .entry))) ⌝ }
+    ensures bytes { λ r. ⌜ now (image .exit) ≡ over (now (image .entry)) 0 (imageOf (answered (take size (now (image .entry))) (now (request .entry)))) ⌝ }
+    ensures moment { λ r. ⌜ Moment (frames + 1) (take (r .size) (now (image .exit))) × (r .size ≤ room) ⌝ }
+{
     let a = transition::apply(parts::clip(image, 0, size), request, next, outcome);
-    if a.status == 0 {
-        keep(image, next);
-        write_step(count, 0, parts::clip(image, 0, a.image));
-        return a.image;
+    let n = a.image;
+    if a.status != 0 {
+        return Stepped {
+            size,
+            line: line_of(frames + 1, a.status, parts::clip(image, 0, size)),
+        };
     }
-    write_step(count, a.status, parts::clip(image, 0, size));
-    size
+    keep(image, next, n);
+    Stepped {
+        size: n,
+        line: line_of(frames + 1, 0, parts::clip(image, 0, n)),
+    }
 }
 
-// Frame by frame, up to the end of the input.
-fn run(first: usize, image: &mut [u8], next: &mut [u8], outcome: &mut [u8], frame: &mut [u8]) {
-    let mut size = first;
-    let mut count: u64 = 1;
-    while count < 18446744073709551615 {
+// What a run gives: how many frames it stepped, and the size of the image that the last one left.
+struct Ran {
+    frames: u64,
+    size: usize,
+}
+
+// From the default image frame by frame, up to the end of the input.
+fn run(image: &mut [u8], next: &mut [u8], outcome: &mut [u8], frame: &mut [u8]) -> Ran
+    requires { ⌜ (length (now image) ≡ room) × (length (now next) ≡ room) × (length (now outcome) ≡ outcome-room) ⌝ }
+    ensures moment { λ r. ⌜ Moment (r .frames) (take (r .size) (now (image .exit))) ⌝ }
+    ensures few { λ r. ⌜ r .frames < 2 ^ 64 - 1 ⌝ }
+{
+    let w = image::default_image(image);
+    let mut size = w.length;
+    let mut frames: u64 = 0;
+    while frames < MOST_FRAMES {
         let f = read_frame(frame);
         match f {
             Frame::Done => {
                 write(b"end\n");
-                return;
+                return Ran { frames, size };
             }
             Frame::Bad => {
                 write(b"end bad\n");
-                return;
+                return Ran { frames, size };
             }
             Frame::Request(n) => {
-                size = step(count, size, parts::clip(frame, 0, n), image, next, outcome);
+                let s = step(frames, size, parts::clip(frame, 0, n), image, next, outcome);
+                let line = s.line;
+                write_line(line);
+                size = s.size;
             }
         }
-        count += 1;
+        frames += 1;
     }
+    Ran { frames, size }
 }
 
 fn main() {
@@ -130,6 +174,5 @@ fn main() {
     let mut outcome = [0u8; 8192];
     let mut frame = [0u8; 8192];
     write(b"step status frontier policy readable collected clock epoch\n");
-    let w = image::default_image(&mut image);
-    run(w.length, &mut image, &mut next, &mut outcome, &mut frame);
+    run(&mut image, &mut next, &mut outcome, &mut frame);
 }

@@ -248,19 +248,20 @@ pub fn refuse(status: u32) -> Applied
     }
 }
 
-// Measures all, and then writes: the image is head and body, the outcome is told. Nothing else writes a call's answer, so
-// no lent byte changes before everything is known to fit.
+// Measures all, and then writes: the image is head and body, gathered from a and b, and the outcome is told, gathered from
+// c and b. Nothing else writes a call's answer, so no lent byte changes before everything is known to fit.
 pub fn emit(
     over_limit: bool,
     a: &[u8],
     b: &[u8],
+    c: &[u8],
     head: &[usize],
     body: &[usize],
     told: &[usize],
     next: &mut [u8],
     outcome: &mut [u8],
 ) -> Applied
-    ensures { λ r. ⌜ Gave (settle «over_limit» (gatherOf (now (a .entry)) (now (b .entry)) (now (head .entry)) ++ gatherOf (now (a .entry)) (now (b .entry)) (now (body .entry))) (gatherOf (now (a .entry)) (now (b .entry)) (now (told .entry))) (length (now (next .entry))) (length (now (outcome .entry))))
+    ensures { λ r. ⌜ Gave (settle «over_limit» (gatherOf (now (a .entry)) (now (b .entry)) (now (head .entry)) ++ gatherOf (now (a .entry)) (now (b .entry)) (now (body .entry))) (gatherOf (now (c .entry)) (now (b .entry)) (now (told .entry))) (length (now (next .entry))) (length (now (outcome .entry))))
         (now (next .entry)) (now (outcome .entry)) r (now (next .exit)) (now (outcome .exit)) ⌝ }
 {
     if over_limit {
@@ -277,13 +278,13 @@ pub fn emit(
     if next.len() < x + y {
         return refuse(45);
     }
-    let o = measure(a, b, told, outcome.len());
+    let o = measure(c, b, told, outcome.len());
     let Size::Of(z) = o else {
         return refuse(46);
     };
     let p = gather(next, 0, a, b, head);
     gather(next, p, a, b, body);
-    gather(outcome, 0, a, b, told);
+    gather(outcome, 0, c, b, told);
     Applied {
         status: 0,
         image: x + y,

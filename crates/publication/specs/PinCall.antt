@@ -88,11 +88,11 @@ module _ {x : List ℕ} {c : Contents} {q : List ℕ} {ctx : ContextAt} {f : Fau
         request-bounded ready,
       )
 
-      pub pin-compares : (b : Bool) → b ≡ sameOf (drop (length id + 1) (run x (place .start) (place .end - place .start))) (drop 1 given)
+      pub pin-compares : (row : List ℕ) → row ≡ run x (place .start) (place .end - place .start) → (b : Bool) → b ≡ sameOf (drop (length id + 1) row) (drop 1 given)
           → b ≡ same-option reference-eq (lookup name (st .pins)) expected
-      pin-compares b h =
+      pin-compares row r b h =
           h
-          ∙ ap (λ (k : Text). sameOf (drop (length k + 1) (run x (place .start) (place .end - place .start))) (drop 1 given)) e
+          ∙ (λ i. sameOf (drop (length (e i) + 1) (r i)) (drop 1 given))
           ∙ (λ i. sameOf (pin-held ready name place found-name i) ((ap (drop 1) given-is ∙ option-held expected) i))
           ∙ same-held (lookup name (st .pins)) expected (held-within (st .pins) (pins-stored st (ready .formed)) name) (ready .within .1 .1 .0)
 

@@ -53,11 +53,11 @@ module _ {x : List ℕ} {c : Contents} {q : List ℕ} {ctx : ContextAt} {f : Fau
     pub unpin-found : place ≡ placed x (seek (codesOf (64 ∷ 9 ∷ 128 ∷ 8 ∷ 64 ∷ [])) (c .pins .count) name (drop (c .pins .at) x))
     unpin-found = found ∙ ap (λ (k : Text). placed x (seek (codesOf (64 ∷ 9 ∷ 128 ∷ 8 ∷ 64 ∷ [])) (c .pins .count) k (drop (c .pins .at) x))) e
 
-    pub unpin-compares : (part : List ℕ) (b : Bool) → part ≡ take (length q) (drop (27 + (length id + 1)) q) → b ≡ sameOf (drop (length id + 1) (run x (place .start) (place .end - place .start))) part
+    pub unpin-compares : (row part : List ℕ) (b : Bool) → row ≡ run x (place .start) (place .end - place .start) → part ≡ take (length q) (drop (27 + (length id + 1)) q) → b ≡ sameOf (drop (length id + 1) row) part
         → b ≡ same-option reference-eq (lookup name (st .pins)) (some (referenceOf q (a .expected)))
-    unpin-compares part b p h =
+    unpin-compares row part b r p h =
         h
-        ∙ ap (sameOf (drop (length id + 1) (run x (place .start) (place .end - place .start)))) p
+        ∙ (λ i. sameOf (drop (length id + 1) (r i)) (p i))
         ∙ ap (λ (k : Text). sameOf (drop (length k + 1) (run x (place .start) (place .end - place .start))) (run q (27 + (length k + 1)) (length q))) e
         ∙ (λ i. sameOf (pin-held ready name place unpin-found i) (expected-here i))
         ∙ same-held (lookup name (st .pins)) (some (referenceOf q (a .expected))) (held-within (st .pins) (pins-stored st (ready .formed)) name) (ready .within .1 .1)

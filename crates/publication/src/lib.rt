@@ -1,9 +1,7 @@
-// Publications and pins: prepare, publish, pin, unpin.
+// Pins: pin, unpin; and an expected reference beside the stored one, which publications test too.
 ghost use mathlib.Core.Path.{_≡_};
-ghost use Prim.Native.Nat.{_-_};
 ghost use lib.ListN.{length, drop};
 ghost use Rattle.text.specs.Same.{sameOf};
-ghost use Rattle.parts.specs.Gather.{run};
 ghost use Rattle.parts.specs.Answer.{Gave};
 ghost use Rattle.entries.specs.Bytes.{applyBytes};
 ghost use Rattle.requests.specs.declared.PublicationAction.{PublicationAction};
@@ -16,7 +14,6 @@ use requests::AuthorityContext;
 use requests::Pin;
 use requests::PublicationAuthorityFaults;
 use requests::Unpin;
-use tables::Place;
 
 // The shape of an option of a reference.
 const MAYBE_REFERENCE: [u8; 5] = [15, 9, 128, 8, 64];
@@ -29,11 +26,11 @@ pub fn option_at<'a>(s: &'a [u8], at: usize) -> &'a [u8]
     parts::clip(s, at, parts::less(end, at))
 }
 
-// Whether the row at a place has, after its first bytes, just what the option has after its flag.
-pub fn is_expected(s: &[u8], p: Place, first: usize, expected: &[u8]) -> bool
-    ensures { λ r. ⌜ r ≡ sameOf (drop first (run (now (s .entry)) (p .start) (p .end - p .start))) (drop 1 (now (expected .entry))) ⌝ }
+// Whether a row has, after its first bytes, just what the option has after its flag.
+pub fn is_expected(row: &[u8], first: usize, expected: &[u8]) -> bool
+    ensures { λ r. ⌜ r ≡ sameOf (drop first (now (row .entry))) (drop 1 (now (expected .entry))) ⌝ }
 {
-    edits::row_holds(s, p, first, parts::clip(expected, 1, expected.len()))
+    edits::row_holds(row, first, parts::clip(expected, 1, expected.len()))
 }
 
 pub fn pin(
@@ -67,7 +64,7 @@ pub fn pin(
     let first = id.len() + 1;
     let p = tables::locate(&image::REFERENCE, image, pins.at, pins.count, id);
     let expected = option_at(request, 27 + first);
-    if !is_expected(image, p, first, expected) {
+    if !is_expected(tables::row(image, p), first, expected) {
         return parts::refuse(8);
     }
     let m = 27 + first + expected.len();
@@ -94,7 +91,7 @@ pub fn pin(
         image.len(),
     ];
     let told = PublicationOutcome::Applied;
-    next::emit(0, c2, image, request, &body, told, next, outcome)
+    next::emit(0, c2, image, request, &body, image, told, next, outcome)
 }
 
 pub fn unpin(
@@ -125,8 +122,7 @@ pub fn unpin(
     let first = id.len() + 1;
     let p = tables::locate(&image::REFERENCE, image, pins.at, pins.count, id);
     if !edits::row_holds(
-        image,
-        p,
+        tables::row(image, p),
         first,
         parts::clip(request, 27 + first, request.len()),
     ) {
@@ -142,5 +138,5 @@ pub fn unpin(
         image.len(),
     ];
     let told = PublicationOutcome::Applied;
-    next::emit(0, c2, image, request, &body, told, next, outcome)
+    next::emit(0, c2, image, request, &body, image, told, next, outcome)
 }

@@ -3,14 +3,12 @@ use Prim.Native.Nat.{ℕ, _-_}
 use native.Mathlib.Omega.{arith}
 use mathlib.Core.List.{List, [], _∷_, _++_, map, append-assoc, append-nil}
 use mathlib.Core.Path.{_≡_, refl, sym, ap, _∙_}
-use lib.ListN.{length, take, drop, length-append}
+use lib.ListN.{length, take, length-append}
 use lib.Seq.{take-append-seam}
 use Rattle.parts.specs.Digits.{Bytes}
 use Rattle.fields.specs.Format.{ok, all, Field, El, enc, dec, Every, Within}
 use Rattle.fields.specs.FormatLaws.{dec-enc, enc-dec}
 use Rattle.fields.specs.Codes.{Code, codes, skip, skip-dec}
-use Rattle.fields.specs.Walks.{placeOf, rest-drop, rest-trans, rest-place}
-use Rattle.tables.specs.Skips.{skip-rest}
 use Rattle.tables.specs.Seek.{rows-at}
 
 unfoldable pub record-of : List Code → List ℕ → List ℕ
@@ -32,10 +30,6 @@ record-enc f v rest w =
 
 pub record-read : (f : Field) (s : List ℕ) (v : El f) (r : List ℕ) → Bytes s → dec f s ≡ ok v r → record-of (codes f) s ≡ enc f v
 record-read f s v r b h = let (i, w) = enc-dec f s v r b h in ap (record-of (codes f)) i ∙ record-enc f v r w
-
--- a reader that stepped stands at what the skip walk left, for any bytes
-pub step-stands : (cs : List Code) (s : List ℕ) (at : ℕ) → drop (placeOf s (skip 0 cs (drop at s))) s ≡ skip 0 cs (drop at s)
-step-stands cs s at = rest-place (rest-trans (rest-drop at s) (skip-rest 0 cs (drop at s)))
 
 -- THE RECORDS OF A TABLE, from step to step, are the bytes of its values
 pub records-enc : (f : Field) (vs : List (El f)) (rest : List ℕ) → Every (Within f) vs → map (record-of (codes f)) (rows-at (codes f) (length vs) (all (enc f) vs ++ rest)) ≡ map (enc f) vs

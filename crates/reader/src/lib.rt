@@ -12,7 +12,7 @@ pub struct Reader<'a> {
 }
 
 // The record of these codes that starts at a place, as a part of s.
-pub fn record_at<'c, 'a>(codes: &'c [u8], s: &'a [u8], at: usize) -> &'a [u8]
+fn record_at<'c, 'a>(codes: &'c [u8], s: &'a [u8], at: usize) -> &'a [u8]
     ensures { λ r. ⌜ now r ≡ record-of (codesOf (now (codes .entry))) (drop at (now (s .entry))) ⌝ }
 {
     let e = tables::skip_record(codes, s, at);
@@ -43,9 +43,16 @@ pub fn step<'c, 'a>(codes: &'c [u8], r: Reader<'a>) -> Reader<'a>
     }
 }
 
-// The record after the one at a place. Its parameters are plain, so a caller's proof has no walk by hand.
-pub fn record_after<'c, 'a>(codes: &'c [u8], s: &'a [u8], at: usize) -> &'a [u8]
-    ensures { λ r. ⌜ now r ≡ record-of (codesOf (now (codes .entry))) (skip 0 (codesOf (now (codes .entry))) (drop at (now (s .entry)))) ⌝ }
+// A walk for callers, whose proofs then have no walk by hand: their parameters are plain, and each makes the reader in a
+// local and passes it on. The record at a place, and the place where it ends.
+pub fn row_at<'c, 'a>(codes: &'c [u8], s: &'a [u8], at: usize) -> &'a [u8]
+    ensures { λ r. ⌜ now r ≡ record-of (codesOf (now (codes .entry))) (drop at (now (s .entry))) ⌝ }
 {
-    current(codes, step(codes, open(s, at)))
+    current(codes, open(s, at))
+}
+
+pub fn place_after<'c, 'a>(codes: &'c [u8], s: &'a [u8], at: usize) -> usize
+    ensures { λ r. ⌜ r ≡ placeOf (now (s .entry)) (skip 0 (codesOf (now (codes .entry))) (drop at (now (s .entry)))) ⌝ }
+{
+    step(codes, open(s, at)).at
 }

@@ -9,18 +9,28 @@ use lib.ListN.{length, take, drop, getD, drop-of-length-le}
 use lib.Seq.{drop-cons, drop-drop}
 use borrow.Author.Tests.{lt-ltb, le-ltb, leb-true, leb-false}
 use Rattle.parts.specs.Digits.{value}
-use Rattle.state.specs.Records.{AuthorityContext, PublicationAuthorityFaults}
+use Rattle.state.specs.Records.{SnapshotLeaseToken}
 use Rattle.machine.specs.Actions.{Action}
 use Rattle.fields.specs.Format.{Malformed, Res, ok, bad, bind, byte, El, dec}
 use Rattle.fields.specs.Codes.{codes, walk, forget, walk-codes, past, passed, skip, codeOf, codesOf}
 use Rattle.fields.specs.Walks.{walkOf}
 use Rattle.fields.specs.declared.Walk.the-variants.{End, Fault}
 use Rattle.image.specs.Contents.{Reply, answer, refusal, whole}
+use Rattle.image.specs.Shapes.{lease, lease-of}
 use Rattle.requests.specs.Flags.{faults-of}
-use Rattle.requests.specs.Request.{Request, head, request, read-fields, read-action, read-request, decodeRequest}
+use Rattle.requests.specs.Request.{Request, head, request, read-fields, read-action, read-request, decodeRequest, read-token, decodeToken}
 use Rattle.requests.specs.Peek.{peek, peek-dec, skip-field}
-use Rattle.requests.specs.Checked.{context, context-of, checkedOf, peek-action, fields-whole}
+use Rattle.requests.specs.Checked.{checkedOf, check-is, made-whole, peek-action, fields-whole}
+use Rattle.requests.specs.Meaning.{faultsOf, requestOf, parsedOf, tokenReadOf}
+use Rattle.requests.specs.Positions.{faultsAt, contextIn, leaseTokenIn, actionIn, requestIn, parsedIn, tokenIn}
+use Rattle.requests.specs.PositionMeaning.{context-means, lease-means, action-means}
 use Rattle.requests.specs.declared.Checked.{Checked}
+use Rattle.requests.specs.declared.AuthorityContext.{AuthorityContext as ContextAt}
+use Rattle.requests.specs.declared.PublicationAuthorityFaults.{PublicationAuthorityFaults as FaultsAt}
+use Rattle.requests.specs.declared.SnapshotLeaseToken.{SnapshotLeaseToken as LeaseTokenAt}
+use Rattle.requests.specs.declared.PublicationAction.{PublicationAction}
+use Rattle.requests.specs.declared.Parsed.{Parsed}
+use Rattle.requests.specs.declared.ParsedToken.{ParsedToken}
 
 abbrev replied : El head → Reply Action → Reply Request
 replied v (answer a) = answer (request v a)
@@ -129,10 +139,47 @@ module _ (s : List ℕ) where
       go (ok v r) e = flags-read (head-read v r e) (leb 2048 flags) refl
       go (bad x) e = never-whole (decodeRequest s) x (head-bad x e) h
 
-  -- in the parts that the code reads
-  pub request-looked : (x : AuthorityContext) (n : ℕ) (f : PublicationAuthorityFaults) (k : ℕ) (a : Action)
-      → x ≡ context-of (peek context s) → n ≡ flags → f ≡ faults-of n → k ≡ getD s 26 0 → a ≡ peek-action k (drop 27 s)
-      → answer (record { context = x; faults = f; action = a }) ≡ looked
+  -- THE PLACES OF A REQUEST, and that what stands there is what was read
+  request-means : answer (requestOf s (requestIn s)) ≡ looked
   unfolding peek
-  request-looked x n f k a hx hn hf hk ha =
-      λ i. answer (record { context = hx i; faults = (hf ∙ ap faults-of (hn ∙ sym flags-are)) i; action = (ha ∙ ap (λ (j : ℕ). peek-action j (drop 27 s)) hk) i })
+  request-means = λ i. answer (record { context = context-means s 0 i; faults = faults-of (sym flags-are i); action = action-means s (getD s 26 0) 27 i })
+
+  parsed-means : parsedOf s (parsedIn s (decodeRequest s)) ≡ decodeRequest s
+  parsed-means = go (decodeRequest s) refl
+    where
+      go : (m : Reply Request) → decodeRequest s ≡ m → parsedOf s (parsedIn s m) ≡ m
+      go (answer q) e = request-means ∙ request-whole (ap checkedOf e) ∙ e
+      go (refusal x) e = refl
+
+  pub parsed : {r : Parsed} → r ≡ parsedIn s (decodeRequest s) → (parsedOf s r ≡ decodeRequest s) × (r ≡ parsedIn s (decodeRequest s))
+  parsed h = (ap (parsedOf s) h ∙ parsed-means, h)
+
+  -- in the parts that the code reads
+  pub request-placed : (x : ContextAt) (n : ℕ) (f : FaultsAt) (k : ℕ) (a : PublicationAction)
+      → x ≡ contextIn s 0 → n ≡ flags → faultsOf f ≡ faults-of n → k ≡ getD s 26 0 → a ≡ actionIn s k 27
+      → checkedOf (decodeRequest s) ≡ Checked.Whole → Parsed.Asked (record { context = x; faults = f; action = a }) ≡ parsedIn s (decodeRequest s)
+  request-placed x n f k a hx hn hf hk ha h =
+      (λ i. Parsed.Asked (record { context = hx i; faults = faultsAt ((hf ∙ ap faults-of hn) i); action = (ha ∙ ap (λ (j : ℕ). actionIn s j 27) hk) i }))
+      ∙ ap (parsedIn s) (request-whole h)
+
+  -- A TOKEN
+  pub token-checked : checkedOf (whole (walk 0 (codes lease) s)) ≡ checkedOf (decodeToken s)
+  unfolding decodeToken read-token
+  token-checked = check-is lease lease-of s
+
+  token-whole : checkedOf (decodeToken s) ≡ Checked.Whole → answer (lease-of (peek lease s)) ≡ decodeToken s
+  unfolding decodeToken read-token
+  token-whole = made-whole lease lease-of s
+
+  token-means : tokenReadOf s (tokenIn s (decodeToken s)) ≡ decodeToken s
+  token-means = go (decodeToken s) refl
+    where
+      go : (m : Reply SnapshotLeaseToken) → decodeToken s ≡ m → tokenReadOf s (tokenIn s m) ≡ m
+      go (answer t) e = ap answer (lease-means s 0) ∙ token-whole (ap checkedOf e) ∙ e
+      go (refusal x) e = refl
+
+  pub token-read : {r : ParsedToken} → r ≡ tokenIn s (decodeToken s) → (tokenReadOf s r ≡ decodeToken s) × (r ≡ tokenIn s (decodeToken s))
+  token-read h = (ap (tokenReadOf s) h ∙ token-means, h)
+
+  pub token-placed : (t : LeaseTokenAt) → t ≡ leaseTokenIn s 0 → checkedOf (decodeToken s) ≡ Checked.Whole → ParsedToken.Token t ≡ tokenIn s (decodeToken s)
+  token-placed t q h = ap (λ (u : LeaseTokenAt). ParsedToken.Token u) q ∙ ap (tokenIn s) (token-whole h)

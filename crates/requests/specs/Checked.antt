@@ -81,12 +81,12 @@ module _ {A : Type 0} (f : Field) (make : El f → A) (s : List ℕ) where
       go (bad x) e h = let z : _≡_ {A = ℕ} 0 1 = cc in absurd (omega arith)
 
 -- ONE OF A LIST OF CASES
-abbrev pub nth : {A : Type 0} → Case A → List (Case A) → ℕ → Case A
+abbrev pub nth : {A : Type 0} → A → List A → ℕ → A
 nth d [] k = d
 nth d (c ∷ cs) zero = c
 nth d (c ∷ cs) (suc k) = nth d cs k
 
-pub nth-past : {A : Type 0} (d : Case A) (cs : List (Case A)) (k : ℕ) → length cs ≤ k → nth d cs k ≡ d
+pub nth-past : {A : Type 0} (d : A) (cs : List A) (k : ℕ) → length cs ≤ k → nth d cs k ≡ d
 nth-past d [] k h = refl
 nth-past d (c ∷ cs) zero h = absurd (omega arith)
 nth-past d (c ∷ cs) (suc k) h = nth-past d cs k (omega arith)
@@ -124,16 +124,17 @@ pub other-past : (n k : ℕ) → Other n k → 1 ≤ k → n < k
 other-past zero k h l = l
 other-past (suc n) k h l = let m : n < k = other-past n k (h .0) l in let q : k ≡ suc n → ⊥ = h .1 in omega arith
 
-pub other-case : (k : ℕ) → (1 ≤ k → 16 < k) → action-case k ≡ retire
-other-case zero h = refl
-other-case (suc k) h = go (leb 17 k) refl
+-- the last of a list is taken for every other byte
+pub nth-other : {A : Type 0} (d : A) (cs : List A) (n : ℕ) → length cs ≡ suc n → nth d cs n ≡ d → (k : ℕ) → (1 ≤ k → n < k) → nth d (d ∷ cs) k ≡ d
+nth-other d cs n m e zero h = refl
+nth-other d cs n m e (suc k) h = go (leb (length cs) k) refl
   where
-    l : 16 < suc k
+    l : n < suc k
     l = h (omega arith)
 
-    go : (b : Bool) → leb 17 k ≡ b → nth retire actions k ≡ retire
-    go true e = nth-past retire actions k (leb-true 17 k e)
-    go false e = let m : k < 17 = leb-false 17 k e in let z : k ≡ 16 = omega (arith, l, m) in ap (nth retire actions) z
+    go : (b : Bool) → leb (length cs) k ≡ b → nth d cs k ≡ d
+    go true q = nth-past d cs k (leb-true (length cs) k q)
+    go false q = let o : k < length cs = leb-false (length cs) k q in let z : k ≡ n = omega (arith, l, o, m) in ap (nth d cs) z ∙ e
 
 -- no action has such a byte
 pub fields-none : (k : ℕ) (s : List ℕ) → (1 ≤ k → 17 < k) → read-fields k s ≡ bad Malformed

@@ -11,3 +11,7 @@ pub mod Limits
 pub mod Meaning
 pub mod Peek
 pub mod Checked
+pub mod Positions
+pub mod PositionLaws
+pub mod PositionMeaning
+pub mod RequestPlaces

@@ -10,7 +10,7 @@ use Rattle.parts.specs.Digits.{value}
 use Rattle.state.specs.Records.{ObjectKind, Data, Manifest}
 use Rattle.fields.specs.Format.{Malformed, Res, ok, many, read-number, read-kind, read-option, Field, nothing, number, kind, text, option, set, _▹_, El, dec}
 use Rattle.fields.specs.FormatLaws.{never, bind-ok, check-ok}
-use Rattle.fields.specs.Codes.{Code, codes, skip, skip-dec, codesOf}
+use Rattle.fields.specs.Codes.{Code, codes, skip, skip-dec}
 use Rattle.fields.specs.Rows.{text-here, text-here-read}
 use Rattle.sets.specs.Sets.{set-of, set-of-read}
 
@@ -73,11 +73,3 @@ peek-dec (f ▹ g) s v r h =
     let (y, r₂, e₂, h₂) = bind-ok (dec g r₁) _ v r h₁ in
     let q : _≡_ {A = El (f ▹ g)} (x, y) v = cc in
     (λ i. (peek-dec f s x r₁ e₁ i, (ap (peek g) (skip-field f s x r₁ e₁) ∙ peek-dec g r₁ y r₂ e₂) i)) ∙ q
-
--- ONE FIELD AFTER THE OTHER: the second is read at the place after the first
-pub then : (f g : Field) (cs : List ℕ) (s : List ℕ) (at p : ℕ) (v : El f) (w : El g)
-    → codesOf cs ≡ codes f → drop p s ≡ skip 0 (codesOf cs) (drop at s)
-    → v ≡ peek f (drop at s) → w ≡ peek g (drop p s) → _≡_ {A = El (f ▹ g)} (v, w) (peek (f ▹ g) (drop at s))
-unfolding peek
-then f g cs s at p v w c e h k =
-    λ i. (h i, (k ∙ ap (peek g) (e ∙ ap (λ (x : List Code). skip 0 x (drop at s)) c)) i)

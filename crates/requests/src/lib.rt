@@ -5,16 +5,14 @@ ghost use lib.ListN.{take, drop};
 ghost use lib.Dec.{eqb};
 ghost use Rattle.parts.specs.Digits.{value};
 ghost use Rattle.fields.specs.Format.{kind, option};
-ghost use Rattle.fields.specs.Codes.{walk, skip, codesOf};
-ghost use Rattle.fields.specs.Rows.{text-here};
+ghost use Rattle.fields.specs.Codes.{walk, codesOf};
 ghost use Rattle.image.specs.Contents.{whole};
-ghost use Rattle.image.specs.Shapes.{u64, name, position, reference, identity, intent, closure, lease, job, permit, receipt, each-option, position-of, reference-of, identity-of, intent-of, closure-of, lease-of, job-of, permit-of, receipt-of};
+ghost use Rattle.image.specs.Shapes.{u64, name, key, keys, position, reference, identity, job};
 ghost use Rattle.requests.specs.Flags.{faults-of};
 ghost use Rattle.requests.specs.Request.{read-fields, decodeRequest, decodeToken};
-ghost use Rattle.requests.specs.Peek.{peek};
-ghost use Rattle.requests.specs.declared.PublicationAction.{PublicationAction};
-ghost use Rattle.requests.specs.Meaning.{actionOf, textOf, maybeTextOf, kindOf, positionOf, contextOf, faultsOf, referenceOf, maybeReferenceOf, identityOf, intentOf, closureOf, leaseTokenOf, jobTokenOf, receiptOf, permitOf, parsedOf, tokenReadOf};
-ghost use Rattle.requests.specs.Checked.{context, context-of, peek-action, checkedOf};
+ghost use Rattle.requests.specs.Meaning.{faultsOf, parsedOf, tokenReadOf};
+ghost use Rattle.requests.specs.Checked.{checkedOf};
+ghost use Rattle.requests.specs.Positions.{behind, fields-place, textIn, maybeTextIn, kindIn, keysIn, positionIn, contextIn, referenceIn, maybeReferenceIn, identityIn, intentIn, closureIn, leaseTokenIn, jobTokenIn, receiptIn, permitIn, windowIn, configureIn, acquireIn, renewIn, releaseIn, clockIn, collectIn, prepareIn, publishIn, pinIn, unpinIn, reserveIn, actionIn, parsedIn, tokenIn};
 use fields::Walk;
 use image::MaybeText;
 use image::TextAt;
@@ -24,9 +22,10 @@ pub enum ObjectKind {
     Manifest,
 }
 
-// A set of keys, by the place of its count byte.
+// A set of keys: the place of its count byte, and how many bytes it takes, count byte included.
 pub struct Keys {
     pub at: usize,
+    pub len: usize,
 }
 
 pub struct AuthorityPosition {
@@ -256,11 +255,7 @@ const REFERENCE: [u8; 4] = [9, 128, 8, 64];
 
 const MAYBE_REFERENCE: [u8; 5] = [15, 9, 128, 8, 64];
 
-const REVISION: [u8; 4] = [12, 64, 12, 64];
-
 const IDENTITY: [u8; 6] = [12, 64, 12, 64, 8, 64];
-
-const CLOSURE: [u8; 5] = [9, 128, 8, 64, 10];
 
 const RECEIPT: [u8; 18] = [
     64,
@@ -329,20 +324,83 @@ enum Checked {
     Fault(u32),
 }
 
-// Where the record of these codes ends that starts at a place.
-fn next(codes: &[u8], s: &[u8], at: usize) -> usize
-    ensures { λ r. ⌜ drop r (now (s .entry)) ≡ skip 0 (codesOf (now (codes .entry))) (drop at (now (s .entry))) ⌝ }
+// The place behind a field of each shape that starts at a place.
+fn after_number(s: &[u8], at: usize) -> usize
+    ensures { λ r. ⌜ r ≡ behind u64 (now (s .entry)) at ⌝ }
 {
-    tables::skip_record(codes, s, at)
+    tables::skip_record(&NUMBER, s, at)
+}
+
+fn after_kind(s: &[u8], at: usize) -> usize
+    ensures { λ r. ⌜ r ≡ behind kind (now (s .entry)) at ⌝ }
+{
+    tables::skip_record(&KIND, s, at)
+}
+
+fn after_name(s: &[u8], at: usize) -> usize
+    ensures { λ r. ⌜ r ≡ behind name (now (s .entry)) at ⌝ }
+{
+    tables::skip_record(&NAME, s, at)
+}
+
+fn after_key(s: &[u8], at: usize) -> usize
+    ensures { λ r. ⌜ r ≡ behind key (now (s .entry)) at ⌝ }
+{
+    tables::skip_record(&KEY, s, at)
+}
+
+fn after_keys(s: &[u8], at: usize) -> usize
+    ensures { λ r. ⌜ r ≡ behind keys (now (s .entry)) at ⌝ }
+{
+    tables::skip_record(&KEYS, s, at)
+}
+
+fn after_maybe_name(s: &[u8], at: usize) -> usize
+    ensures { λ r. ⌜ r ≡ behind (option name) (now (s .entry)) at ⌝ }
+{
+    tables::skip_record(&MAYBE_NAME, s, at)
+}
+
+fn after_position(s: &[u8], at: usize) -> usize
+    ensures { λ r. ⌜ r ≡ behind position (now (s .entry)) at ⌝ }
+{
+    tables::skip_record(&POSITION, s, at)
+}
+
+fn after_reference(s: &[u8], at: usize) -> usize
+    ensures { λ r. ⌜ r ≡ behind reference (now (s .entry)) at ⌝ }
+{
+    tables::skip_record(&REFERENCE, s, at)
+}
+
+fn after_maybe_reference(s: &[u8], at: usize) -> usize
+    ensures { λ r. ⌜ r ≡ behind (option reference) (now (s .entry)) at ⌝ }
+{
+    tables::skip_record(&MAYBE_REFERENCE, s, at)
+}
+
+fn after_identity(s: &[u8], at: usize) -> usize
+    ensures { λ r. ⌜ r ≡ behind identity (now (s .entry)) at ⌝ }
+{
+    tables::skip_record(&IDENTITY, s, at)
+}
+
+fn after_job(s: &[u8], at: usize) -> usize
+    ensures { λ r. ⌜ r ≡ behind job (now (s .entry)) at ⌝ }
+{
+    tables::skip_record(&image::JOB, s, at)
 }
 
 // The readers below check nothing: they are called on bytes that were checked, and are total so that no caller has to show it.
 // In each, a local with the name of a field is the place where that field starts.
 fn text_place(s: &[u8], at: usize) -> TextAt
-    ensures { λ r. ⌜ textOf (now (s .entry)) r ≡ text-here (drop at (now (s .entry))) ⌝ }
+    ensures { λ r. ⌜ r ≡ textIn (now (s .entry)) at ⌝ }
 {
     if s.len() <= at {
-        return TextAt { at, len: 0 };
+        return TextAt {
+            at: s.len(),
+            len: 0,
+        };
     }
     TextAt {
         at: at + 1,
@@ -351,7 +409,7 @@ fn text_place(s: &[u8], at: usize) -> TextAt
 }
 
 fn maybe_text_place(s: &[u8], at: usize) -> MaybeText
-    ensures { λ r. ⌜ maybeTextOf (now (s .entry)) r ≡ peek (option name) (drop at (now (s .entry))) ⌝ }
+    ensures { λ r. ⌜ r ≡ maybeTextIn (now (s .entry)) at ⌝ }
 {
     if parts::byte_at(s, at) == 0 {
         return MaybeText::NoText;
@@ -360,7 +418,7 @@ fn maybe_text_place(s: &[u8], at: usize) -> MaybeText
 }
 
 fn kind_at(s: &[u8], at: usize) -> ObjectKind
-    ensures { λ r. ⌜ kindOf r ≡ peek kind (drop at (now (s .entry))) ⌝ }
+    ensures { λ r. ⌜ r ≡ kindIn (now (s .entry)) at ⌝ }
 {
     if parts::byte_at(s, at) == 0 {
         return ObjectKind::Data;
@@ -369,21 +427,30 @@ fn kind_at(s: &[u8], at: usize) -> ObjectKind
 }
 
 fn position_at(s: &[u8], at: usize) -> AuthorityPosition
-    ensures { λ r. ⌜ positionOf r ≡ position-of (peek position (drop at (now (s .entry)))) ⌝ }
+    ensures { λ r. ⌜ r ≡ positionIn (now (s .entry)) at ⌝ }
 {
-    let index = next(&NUMBER, s, at);
+    let index = after_number(s, at);
     AuthorityPosition {
         term: parts::u64_at(s, at),
         index: parts::u64_at(s, index),
     }
 }
 
-fn reference_at(s: &[u8], at: usize) -> ObjectReference
-    ensures { λ r. ⌜ referenceOf (now (s .entry)) r ≡ reference-of (peek reference (drop at (now (s .entry)))) ⌝ }
+fn keys_at(s: &[u8], at: usize) -> Keys
+    ensures { λ r. ⌜ r ≡ keysIn (now (s .entry)) at ⌝ }
 {
-    let key = next(&KIND, s, at);
-    let length = next(&KEY, s, key);
-    let sha256 = next(&NUMBER, s, length);
+    Keys {
+        at,
+        len: parts::less(after_keys(s, at), at),
+    }
+}
+
+fn reference_at(s: &[u8], at: usize) -> ObjectReference
+    ensures { λ r. ⌜ r ≡ referenceIn (now (s .entry)) at ⌝ }
+{
+    let key = after_kind(s, at);
+    let length = after_key(s, key);
+    let sha256 = after_number(s, length);
     ObjectReference {
         kind: kind_at(s, at),
         key: text_place(s, key),
@@ -393,7 +460,7 @@ fn reference_at(s: &[u8], at: usize) -> ObjectReference
 }
 
 fn maybe_reference_at(s: &[u8], at: usize) -> MaybeReference
-    ensures { λ r. ⌜ maybeReferenceOf (now (s .entry)) r ≡ each-option reference-of (peek (option reference) (drop at (now (s .entry)))) ⌝ }
+    ensures { λ r. ⌜ r ≡ maybeReferenceIn (now (s .entry)) at ⌝ }
 {
     if parts::byte_at(s, at) == 0 {
         return MaybeReference::NoReference;
@@ -402,11 +469,11 @@ fn maybe_reference_at(s: &[u8], at: usize) -> MaybeReference
 }
 
 fn identity_at(s: &[u8], at: usize) -> ObjectIdentity
-    ensures { λ r. ⌜ identityOf (now (s .entry)) r ≡ identity-of (peek identity (drop at (now (s .entry)))) ⌝ }
+    ensures { λ r. ⌜ r ≡ identityIn (now (s .entry)) at ⌝ }
 {
-    let version = next(&MAYBE_NAME, s, at);
-    let length = next(&REVISION, s, at);
-    let sha256 = next(&NUMBER, s, length);
+    let version = after_maybe_name(s, at);
+    let length = after_maybe_name(s, version);
+    let sha256 = after_number(s, length);
     ObjectIdentity {
         e_tag: maybe_text_place(s, at),
         version: maybe_text_place(s, version),
@@ -416,13 +483,13 @@ fn identity_at(s: &[u8], at: usize) -> ObjectIdentity
 }
 
 fn intent_at(s: &[u8], at: usize) -> PublicationIntent
-    ensures { λ r. ⌜ intentOf (now (s .entry)) r ≡ intent-of (peek intent (drop at (now (s .entry)))) ⌝ }
+    ensures { λ r. ⌜ r ≡ intentIn (now (s .entry)) at ⌝ }
 {
-    let manifest = next(&KEYS, s, at);
-    let destination_root = next(&REFERENCE, s, manifest);
-    let expected_prior_root = next(&NAME, s, destination_root);
+    let manifest = after_keys(s, at);
+    let destination_root = after_reference(s, manifest);
+    let expected_prior_root = after_name(s, destination_root);
     PublicationIntent {
-        object_keys: Keys { at },
+        object_keys: keys_at(s, at),
         manifest: reference_at(s, manifest),
         destination_root: text_place(s, destination_root),
         expected_prior_root: maybe_reference_at(s, expected_prior_root),
@@ -430,27 +497,30 @@ fn intent_at(s: &[u8], at: usize) -> PublicationIntent
 }
 
 fn closure_at(s: &[u8], at: usize) -> SnapshotClosure
-    ensures { λ r. ⌜ closureOf (now (s .entry)) r ≡ closure-of (peek closure (drop at (now (s .entry)))) ⌝ }
+    ensures { λ r. ⌜ r ≡ closureIn (now (s .entry)) at ⌝ }
 {
-    let object_keys = next(&REFERENCE, s, at);
+    let object_keys = after_reference(s, at);
     SnapshotClosure {
         manifest: reference_at(s, at),
-        object_keys: Keys { at: object_keys },
+        object_keys: keys_at(s, object_keys),
     }
 }
 
-fn lease_token_at(s: &[u8], at: usize) -> SnapshotLeaseToken
-    ensures { λ r. ⌜ leaseTokenOf (now (s .entry)) r ≡ lease-of (peek lease (drop at (now (s .entry)))) ⌝ }
+// Also for a token as a row of the image holds it.
+pub fn lease_token_at(s: &[u8], at: usize) -> SnapshotLeaseToken
+    ensures { λ r. ⌜ r ≡ leaseTokenIn (now (s .entry)) at ⌝ }
 {
-    let tenant_id = next(&NAME, s, at);
-    let snapshot_version = next(&NAME, s, tenant_id);
-    let lease_epoch = next(&NUMBER, s, snapshot_version);
-    let owner = next(&NUMBER, s, lease_epoch);
-    let purpose = next(&NAME, s, owner);
-    let deadline_tick = next(&NAME, s, purpose);
-    let closure = next(&NUMBER, s, deadline_tick);
-    let owner_generation = next(&CLOSURE, s, closure);
-    let authority_position = next(&NUMBER, s, owner_generation);
+    let tenant_id = after_name(s, at);
+    let snapshot_version = after_name(s, tenant_id);
+    let lease_epoch = after_number(s, snapshot_version);
+    let owner = after_number(s, lease_epoch);
+    let purpose = after_name(s, owner);
+    let deadline_tick = after_name(s, purpose);
+    let closure = after_number(s, deadline_tick);
+    let held = closure_at(s, closure);
+    let object_keys = held.object_keys;
+    let owner_generation = object_keys.at + object_keys.len;
+    let authority_position = after_number(s, owner_generation);
     SnapshotLeaseToken {
         lease_id: text_place(s, at),
         tenant_id: text_place(s, tenant_id),
@@ -459,23 +529,23 @@ fn lease_token_at(s: &[u8], at: usize) -> SnapshotLeaseToken
         owner: text_place(s, owner),
         purpose: text_place(s, purpose),
         deadline_tick: parts::u64_at(s, deadline_tick),
-        closure: closure_at(s, closure),
+        closure: held,
         owner_generation: parts::u64_at(s, owner_generation),
         authority_position: position_at(s, authority_position),
     }
 }
 
 fn job_token_at(s: &[u8], at: usize) -> CollectionJobToken
-    ensures { λ r. ⌜ jobTokenOf (now (s .entry)) r ≡ job-of (peek job (drop at (now (s .entry)))) ⌝ }
+    ensures { λ r. ⌜ r ≡ jobTokenIn (now (s .entry)) at ⌝ }
 {
-    let owner_generation = next(&NAME, s, at);
-    let authority_position = next(&NUMBER, s, owner_generation);
-    let frozen_floor = next(&POSITION, s, authority_position);
-    let input_manifest = next(&NUMBER, s, frozen_floor);
-    let destination_root = next(&REFERENCE, s, input_manifest);
-    let range_map_epoch = next(&NAME, s, destination_root);
-    let expected_collected_through = next(&NUMBER, s, range_map_epoch);
-    let output_namespace = next(&NUMBER, s, expected_collected_through);
+    let owner_generation = after_name(s, at);
+    let authority_position = after_number(s, owner_generation);
+    let frozen_floor = after_position(s, authority_position);
+    let input_manifest = after_number(s, frozen_floor);
+    let destination_root = after_reference(s, input_manifest);
+    let range_map_epoch = after_name(s, destination_root);
+    let expected_collected_through = after_number(s, range_map_epoch);
+    let output_namespace = after_number(s, expected_collected_through);
     CollectionJobToken {
         job_id: text_place(s, at),
         owner_generation: parts::u64_at(s, owner_generation),
@@ -490,24 +560,24 @@ fn job_token_at(s: &[u8], at: usize) -> CollectionJobToken
 }
 
 fn receipt_at(s: &[u8], at: usize) -> CollectionReceipt
-    ensures { λ r. ⌜ receiptOf (now (s .entry)) r ≡ receipt-of (peek receipt (drop at (now (s .entry)))) ⌝ }
+    ensures { λ r. ⌜ r ≡ receiptIn (now (s .entry)) at ⌝ }
 {
-    let output_manifest = next(&image::JOB, s, at);
-    let object_keys = next(&REFERENCE, s, output_manifest);
+    let output_manifest = after_job(s, at);
+    let object_keys = after_reference(s, output_manifest);
     CollectionReceipt {
         token: job_token_at(s, at),
         output_manifest: reference_at(s, output_manifest),
-        object_keys: Keys { at: object_keys },
+        object_keys: keys_at(s, object_keys),
     }
 }
 
 fn permit_at(s: &[u8], at: usize) -> DeletePermit
-    ensures { λ r. ⌜ permitOf (now (s .entry)) r ≡ permit-of (peek permit (drop at (now (s .entry)))) ⌝ }
+    ensures { λ r. ⌜ r ≡ permitIn (now (s .entry)) at ⌝ }
 {
-    let identity = next(&KEY, s, at);
-    let plan_id = next(&IDENTITY, s, identity);
-    let owner_generation = next(&NAME, s, plan_id);
-    let authority_position = next(&NUMBER, s, owner_generation);
+    let identity = after_key(s, at);
+    let plan_id = after_identity(s, identity);
+    let owner_generation = after_name(s, plan_id);
+    let authority_position = after_number(s, owner_generation);
     DeletePermit {
         key: text_place(s, at),
         identity: identity_at(s, identity),
@@ -534,9 +604,9 @@ fn check_record(codes: &[u8], s: &[u8], at: usize) -> Checked
 }
 
 fn window_at(s: &[u8], at: usize) -> SetRetentionWindow
-    ensures { λ r. ⌜ actionOf (now (s .entry)) (PublicationAction.SetRetentionWindow r) ≡ peek-action 2 (drop at (now (s .entry))) ⌝ }
+    ensures { λ r. ⌜ r ≡ windowIn (now (s .entry)) at ⌝ }
 {
-    let retention_window = next(&NUMBER, s, at);
+    let retention_window = after_number(s, at);
     SetRetentionWindow {
         expected_policy_epoch: parts::u64_at(s, at),
         retention_window: parts::u64_at(s, retention_window),
@@ -544,9 +614,9 @@ fn window_at(s: &[u8], at: usize) -> SetRetentionWindow
 }
 
 fn configure_at(s: &[u8], at: usize) -> ConfigureCollectionRoot
-    ensures { λ r. ⌜ actionOf (now (s .entry)) (PublicationAction.ConfigureCollectionRoot r) ≡ peek-action 4 (drop at (now (s .entry))) ⌝ }
+    ensures { λ r. ⌜ r ≡ configureIn (now (s .entry)) at ⌝ }
 {
-    let destination_root = next(&MAYBE_NAME, s, at);
+    let destination_root = after_maybe_name(s, at);
     ConfigureCollectionRoot {
         expected: maybe_text_place(s, at),
         destination_root: text_place(s, destination_root),
@@ -554,14 +624,14 @@ fn configure_at(s: &[u8], at: usize) -> ConfigureCollectionRoot
 }
 
 fn acquire_at(s: &[u8], at: usize) -> AcquireLease
-    ensures { λ r. ⌜ actionOf (now (s .entry)) (PublicationAction.AcquireLease r) ≡ peek-action 5 (drop at (now (s .entry))) ⌝ }
+    ensures { λ r. ⌜ r ≡ acquireIn (now (s .entry)) at ⌝ }
 {
-    let tenant_id = next(&NAME, s, at);
-    let snapshot_version = next(&NAME, s, tenant_id);
-    let owner = next(&NUMBER, s, snapshot_version);
-    let purpose = next(&NAME, s, owner);
-    let deadline_tick = next(&NAME, s, purpose);
-    let closure = next(&NUMBER, s, deadline_tick);
+    let tenant_id = after_name(s, at);
+    let snapshot_version = after_name(s, tenant_id);
+    let owner = after_number(s, snapshot_version);
+    let purpose = after_name(s, owner);
+    let deadline_tick = after_name(s, purpose);
+    let closure = after_number(s, deadline_tick);
     AcquireLease {
         lease_id: text_place(s, at),
         tenant_id: text_place(s, tenant_id),
@@ -574,10 +644,10 @@ fn acquire_at(s: &[u8], at: usize) -> AcquireLease
 }
 
 fn renew_at(s: &[u8], at: usize) -> RenewLease
-    ensures { λ r. ⌜ actionOf (now (s .entry)) (PublicationAction.RenewLease r) ≡ peek-action 6 (drop at (now (s .entry))) ⌝ }
+    ensures { λ r. ⌜ r ≡ renewIn (now (s .entry)) at ⌝ }
 {
-    let expected_lease_epoch = next(&NAME, s, at);
-    let new_deadline_tick = next(&NUMBER, s, expected_lease_epoch);
+    let expected_lease_epoch = after_name(s, at);
+    let new_deadline_tick = after_number(s, expected_lease_epoch);
     RenewLease {
         lease_id: text_place(s, at),
         expected_lease_epoch: parts::u64_at(s, expected_lease_epoch),
@@ -586,9 +656,9 @@ fn renew_at(s: &[u8], at: usize) -> RenewLease
 }
 
 fn release_at(s: &[u8], at: usize) -> ReleaseLease
-    ensures { λ r. ⌜ actionOf (now (s .entry)) (PublicationAction.ReleaseLease r) ≡ peek-action 7 (drop at (now (s .entry))) ⌝ }
+    ensures { λ r. ⌜ r ≡ releaseIn (now (s .entry)) at ⌝ }
 {
-    let expected_lease_epoch = next(&NAME, s, at);
+    let expected_lease_epoch = after_name(s, at);
     ReleaseLease {
         lease_id: text_place(s, at),
         expected_lease_epoch: parts::u64_at(s, expected_lease_epoch),
@@ -596,9 +666,9 @@ fn release_at(s: &[u8], at: usize) -> ReleaseLease
 }
 
 fn clock_at(s: &[u8], at: usize) -> AdvanceLeaseClock
-    ensures { λ r. ⌜ actionOf (now (s .entry)) (PublicationAction.AdvanceLeaseClock r) ≡ peek-action 8 (drop at (now (s .entry))) ⌝ }
+    ensures { λ r. ⌜ r ≡ clockIn (now (s .entry)) at ⌝ }
 {
-    let next_tick = next(&NUMBER, s, at);
+    let next_tick = after_number(s, at);
     AdvanceLeaseClock {
         expected_tick: parts::u64_at(s, at),
         next_tick: parts::u64_at(s, next_tick),
@@ -606,14 +676,14 @@ fn clock_at(s: &[u8], at: usize) -> AdvanceLeaseClock
 }
 
 fn collect_at(s: &[u8], at: usize) -> PrepareCollection
-    ensures { λ r. ⌜ actionOf (now (s .entry)) (PublicationAction.PrepareCollection r) ≡ peek-action 9 (drop at (now (s .entry))) ⌝ }
+    ensures { λ r. ⌜ r ≡ collectIn (now (s .entry)) at ⌝ }
 {
-    let frozen_floor = next(&NAME, s, at);
-    let input_manifest = next(&NUMBER, s, frozen_floor);
-    let destination_root = next(&REFERENCE, s, input_manifest);
-    let range_map_epoch = next(&NAME, s, destination_root);
-    let expected_collected_through = next(&NUMBER, s, range_map_epoch);
-    let output_namespace = next(&NUMBER, s, expected_collected_through);
+    let frozen_floor = after_name(s, at);
+    let input_manifest = after_number(s, frozen_floor);
+    let destination_root = after_reference(s, input_manifest);
+    let range_map_epoch = after_name(s, destination_root);
+    let expected_collected_through = after_number(s, range_map_epoch);
+    let output_namespace = after_number(s, expected_collected_through);
     PrepareCollection {
         job_id: text_place(s, at),
         frozen_floor: parts::u64_at(s, frozen_floor),
@@ -626,9 +696,9 @@ fn collect_at(s: &[u8], at: usize) -> PrepareCollection
 }
 
 fn prepare_at(s: &[u8], at: usize) -> Prepare
-    ensures { λ r. ⌜ actionOf (now (s .entry)) (PublicationAction.Prepare r) ≡ peek-action 12 (drop at (now (s .entry))) ⌝ }
+    ensures { λ r. ⌜ r ≡ prepareIn (now (s .entry)) at ⌝ }
 {
-    let intent = next(&NAME, s, at);
+    let intent = after_name(s, at);
     Prepare {
         publication_id: text_place(s, at),
         intent: intent_at(s, intent),
@@ -636,11 +706,11 @@ fn prepare_at(s: &[u8], at: usize) -> Prepare
 }
 
 fn publish_at(s: &[u8], at: usize) -> Publish
-    ensures { λ r. ⌜ actionOf (now (s .entry)) (PublicationAction.Publish r) ≡ peek-action 13 (drop at (now (s .entry))) ⌝ }
+    ensures { λ r. ⌜ r ≡ publishIn (now (s .entry)) at ⌝ }
 {
-    let destination_root = next(&NAME, s, at);
-    let expected_prior_root = next(&NAME, s, destination_root);
-    let manifest = next(&MAYBE_REFERENCE, s, expected_prior_root);
+    let destination_root = after_name(s, at);
+    let expected_prior_root = after_name(s, destination_root);
+    let manifest = after_maybe_reference(s, expected_prior_root);
     Publish {
         publication_id: text_place(s, at),
         destination_root: text_place(s, destination_root),
@@ -650,10 +720,10 @@ fn publish_at(s: &[u8], at: usize) -> Publish
 }
 
 fn pin_at(s: &[u8], at: usize) -> Pin
-    ensures { λ r. ⌜ actionOf (now (s .entry)) (PublicationAction.Pin r) ≡ peek-action 14 (drop at (now (s .entry))) ⌝ }
+    ensures { λ r. ⌜ r ≡ pinIn (now (s .entry)) at ⌝ }
 {
-    let expected = next(&NAME, s, at);
-    let manifest = next(&MAYBE_REFERENCE, s, expected);
+    let expected = after_name(s, at);
+    let manifest = after_maybe_reference(s, expected);
     Pin {
         pin_id: text_place(s, at),
         expected: maybe_reference_at(s, expected),
@@ -662,9 +732,9 @@ fn pin_at(s: &[u8], at: usize) -> Pin
 }
 
 fn unpin_at(s: &[u8], at: usize) -> Unpin
-    ensures { λ r. ⌜ actionOf (now (s .entry)) (PublicationAction.Unpin r) ≡ peek-action 15 (drop at (now (s .entry))) ⌝ }
+    ensures { λ r. ⌜ r ≡ unpinIn (now (s .entry)) at ⌝ }
 {
-    let expected = next(&NAME, s, at);
+    let expected = after_name(s, at);
     Unpin {
         pin_id: text_place(s, at),
         expected: reference_at(s, expected),
@@ -672,11 +742,11 @@ fn unpin_at(s: &[u8], at: usize) -> Unpin
 }
 
 fn reserve_at(s: &[u8], at: usize) -> ReserveDelete
-    ensures { λ r. ⌜ actionOf (now (s .entry)) (PublicationAction.ReserveDelete r) ≡ peek-action 16 (drop at (now (s .entry))) ⌝ }
+    ensures { λ r. ⌜ r ≡ reserveIn (now (s .entry)) at ⌝ }
 {
-    let mark_epoch = next(&NAME, s, at);
-    let key = next(&NUMBER, s, mark_epoch);
-    let identity = next(&KEY, s, key);
+    let mark_epoch = after_name(s, at);
+    let key = after_number(s, mark_epoch);
+    let identity = after_key(s, key);
     ReserveDelete {
         plan_id: text_place(s, at),
         mark_epoch: parts::u64_at(s, mark_epoch),
@@ -713,7 +783,7 @@ fn check_fields(action: u8, s: &[u8]) -> Checked
 
 // The action of an action byte, its fields read without checks. A byte other than 1 to 17 was refused before, so the last arm is for 17.
 fn action_at(action: u8, s: &[u8]) -> PublicationAction
-    ensures { λ r. ⌜ actionOf (now (s .entry)) r ≡ peek-action action (drop 27 (now (s .entry))) ⌝ }
+    ensures { λ r. ⌜ r ≡ actionIn (now (s .entry)) action fields-place ⌝ }
 {
     match action {
         1 => PublicationAction::ObserveCommittedFrontier(parts::u64_at(s, FIELDS_AT)),
@@ -737,9 +807,9 @@ fn action_at(action: u8, s: &[u8]) -> PublicationAction
 }
 
 fn context_at(s: &[u8], at: usize) -> AuthorityContext
-    ensures { λ r. ⌜ contextOf r ≡ context-of (peek context (drop at (now (s .entry)))) ⌝ }
+    ensures { λ r. ⌜ r ≡ contextIn (now (s .entry)) at ⌝ }
 {
-    let position = next(&NUMBER, s, at);
+    let position = after_number(s, at);
     AuthorityContext {
         generation: parts::u64_at(s, at),
         position: position_at(s, position),
@@ -801,6 +871,7 @@ fn check_request(s: &[u8]) -> Checked
 // Reads a request, or its first fault.
 pub fn parse(s: &[u8]) -> Parsed
     ensures { λ r. ⌜ parsedOf (now (s .entry)) r ≡ decodeRequest (now (s .entry)) ⌝ }
+    ensures placed { λ r. ⌜ r ≡ parsedIn (now (s .entry)) (decodeRequest (now (s .entry))) ⌝ }
 {
     let c = check_request(s);
     match c {
@@ -816,6 +887,7 @@ pub fn parse(s: &[u8]) -> Parsed
 // Reads a token, or its first fault: its fields, nothing after.
 pub fn parse_token(s: &[u8]) -> ParsedToken
     ensures { λ r. ⌜ tokenReadOf (now (s .entry)) r ≡ decodeToken (now (s .entry)) ⌝ }
+    ensures placed { λ r. ⌜ r ≡ tokenIn (now (s .entry)) (decodeToken (now (s .entry))) ⌝ }
 {
     let c = check_record(&image::LEASE, s, 0);
     match c {

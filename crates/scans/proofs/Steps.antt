@@ -1,17 +1,21 @@
 -- One row of a scan.
 use Prim.Native.Nat.{ℕ, suc, _+_, _-_, _≤_, _<_, min}
 use native.Mathlib.Omega.{arith}
-use mathlib.Core.List.{List, [], _∷_}
+use mathlib.Core.List.{List, [], _∷_, _++_}
 use mathlib.Core.Bool.{Bool, true, false, _||_}
 use mathlib.Core.Path.{_≡_, refl, sym, ap, _∙_}
 use native.Mathlib.Nat.{sub-zero}
 use lib.ListN.{length, drop}
-use Rattle.state.specs.Maps.{any, contains, same, starts-with}
-use Rattle.fields.specs.Codes.{Code, codes, skip, codeOf, codesOf}
+use Rattle.state.specs.Maps.{Every, any, contains, same, starts-with}
+use Rattle.fields.specs.Format.{_▹_}
+use Rattle.fields.specs.Codes.{Code, a-text, codes, skip, key-limit, codeOf, codesOf}
 use Rattle.fields.specs.Rows.{text-here}
 use Rattle.fields.specs.Walks.{placeOf, drop-within}
 use Rattle.sets.specs.Sets.{set-of}
 use Rattle.tables.specs.Seek.{rows-at}
+use Rattle.reader.specs.Records.{record-of}
+use Rattle.reader.specs.OwnBytes.{Plain, text-own}
+use Rattle.image.specs.Shapes.{u64, name, key, job}
 use Rattle.scans.specs.Scans.{namesAt, before-manifest-key, before-namespace, usesAt}
 use Rattle.tables.specs.Skips.{after-record}
 
@@ -54,20 +58,49 @@ namespace-codes : codesOf (64 ∷ 8 ∷ 8 ∷ 8 ∷ 8 ∷ 9 ∷ 128 ∷ 8 ∷ 64
 unfolding codesOf codeOf codes
 namespace-codes = refl
 
-text-told : (cs ds : List Code) (s t : List ℕ) (p a : ℕ) → cs ≡ ds → a ≡ placeOf s (skip 0 cs (drop p s)) → t ≡ text-here (drop a s) → t ≡ text-here (skip 0 ds (drop p s))
-text-told cs ds s t p a w e h = h ∙ ap (λ (l : List ℕ). text-here l) (ap (λ (j : ℕ). drop j s) (e ∙ ap (λ (us : List Code). placeOf s (skip 0 us (drop p s))) w) ∙ after-record ds s p)
+text-told : (cs ds : List Code) (s t : List ℕ) (a : ℕ) → cs ≡ ds → a ≡ placeOf s (skip 0 cs s) → t ≡ text-here (drop a s) → t ≡ text-here (skip 0 ds s)
+text-told cs ds s t a w e h = h ∙ ap (λ (l : List ℕ). text-here l) (ap (λ (j : ℕ). drop j s) (e ∙ ap (λ (us : List Code). placeOf s (skip 0 us s)) w) ∙ after-record ds s 0)
 
-module _ (k s t : List ℕ) (p a : ℕ) (b : Bool) (e : a ≡ placeOf s (skip 0 (codesOf (64 ∷ 8 ∷ 8 ∷ 8 ∷ 8 ∷ 9 ∷ [])) (drop p s))) (h : t ≡ text-here (drop a s)) (f : b ≡ same t k) where
-  manifest-told : b ≡ same (text-here (skip 0 (codes before-manifest-key) (drop p s))) k
-  manifest-told = f ∙ ap (λ (u : List ℕ). same u k) (text-told _ _ s t p a manifest-codes e h)
+module _ (k s t : List ℕ) (a : ℕ) (b : Bool) (e : a ≡ placeOf s (skip 0 (codesOf (64 ∷ 8 ∷ 8 ∷ 8 ∷ 8 ∷ 9 ∷ [])) s)) (h : t ≡ text-here (drop a s)) (f : b ≡ same t k) where
+  manifest-told : b ≡ same (text-here (skip 0 (codes before-manifest-key) s)) k
+  manifest-told = f ∙ ap (λ (u : List ℕ). same u k) (text-told _ _ s t a manifest-codes e h)
 
-  pub uses-first : b ≡ true → true ≡ usesAt k (drop p s)
+  pub uses-first : b ≡ true → true ≡ usesAt k s
   unfolding usesAt
-  uses-first g = sym (ap (λ (c : Bool). c || starts-with k (text-here (skip 0 (codes before-namespace) (drop p s)))) (sym manifest-told ∙ g))
+  uses-first g = sym (ap (λ (c : Bool). c || starts-with k (text-here (skip 0 (codes before-namespace) s))) (sym manifest-told ∙ g))
 
-  pub uses-second : b ≡ false → (t′ : List ℕ) (a′ : ℕ) (b′ : Bool) → a′ ≡ placeOf s (skip 0 (codesOf (64 ∷ 8 ∷ 8 ∷ 8 ∷ 8 ∷ 9 ∷ 128 ∷ 8 ∷ 64 ∷ 64 ∷ 8 ∷ 8 ∷ [])) (drop p s))
-      → t′ ≡ text-here (drop a′ s) → b′ ≡ starts-with k t′ → b′ ≡ usesAt k (drop p s)
+  pub uses-second : b ≡ false → (t′ : List ℕ) (a′ : ℕ) (b′ : Bool) → a′ ≡ placeOf s (skip 0 (codesOf (64 ∷ 8 ∷ 8 ∷ 8 ∷ 8 ∷ 9 ∷ 128 ∷ 8 ∷ 64 ∷ 64 ∷ 8 ∷ 8 ∷ [])) s)
+      → t′ ≡ text-here (drop a′ s) → b′ ≡ starts-with k t′ → b′ ≡ usesAt k s
   unfolding usesAt
   uses-second g t′ a′ b′ e′ h′ f′ =
-      f′ ∙ ap (λ (u : List ℕ). starts-with k u) (text-told _ _ s t′ p a′ namespace-codes e′ h′)
-      ∙ sym (ap (λ (c : Bool). c || starts-with k (text-here (skip 0 (codes before-namespace) (drop p s)))) (sym manifest-told ∙ g))
+      f′ ∙ ap (λ (u : List ℕ). starts-with k u) (text-told _ _ s t′ a′ namespace-codes e′ h′)
+      ∙ sym (ap (λ (c : Bool). c || starts-with k (text-here (skip 0 (codes before-namespace) s))) (sym manifest-told ∙ g))
+
+-- a job is told by its own bytes, as the reader hands them out
+manifest-in-job : codes job ≡ codes before-manifest-key ++ (a-text key-limit ∷ codes (u64 ▹ name ▹ name ▹ u64 ▹ u64 ▹ key))
+unfolding codes
+manifest-in-job = refl
+
+namespace-in-job : codes job ≡ codes before-namespace ++ (a-text key-limit ∷ [])
+unfolding codes
+namespace-in-job = refl
+
+manifest-plain : Every Plain (codes before-manifest-key)
+unfolding codes
+manifest-plain = (tt, (tt, (tt, (tt, (tt, (tt, tt))))))
+
+namespace-plain : Every Plain (codes before-namespace)
+unfolding codes
+namespace-plain = (tt, (tt, (tt, (tt, (tt, (tt, (tt, (tt, (tt, (tt, (tt, (tt, tt))))))))))))
+
+uses-own : (k s : List ℕ) → usesAt k (record-of (codes job) s) ≡ usesAt k s
+unfolding usesAt
+uses-own k s =
+    let m : text-here (skip 0 (codes before-manifest-key) (record-of (codes job) s)) ≡ text-here (skip 0 (codes before-manifest-key) s) =
+    ap (λ (cs : List Code). text-here (skip 0 (codes before-manifest-key) (record-of cs s))) manifest-in-job ∙ text-own (codes before-manifest-key) key-limit (codes (u64 ▹ name ▹ name ▹ u64 ▹ u64 ▹ key)) manifest-plain s in
+    let n : text-here (skip 0 (codes before-namespace) (record-of (codes job) s)) ≡ text-here (skip 0 (codes before-namespace) s) =
+    ap (λ (cs : List Code). text-here (skip 0 (codes before-namespace) (record-of cs s))) namespace-in-job ∙ text-own (codes before-namespace) key-limit [] namespace-plain s in
+    λ i. same (m i) k || starts-with k (n i)
+
+pub uses-told : (cs : List Code) (k s row : List ℕ) (b c : Bool) → cs ≡ codes job → row ≡ record-of cs s → b ≡ usesAt k row → b ≡ c → usesAt k s ≡ c
+uses-told cs k s row b c w e h g = sym (h ∙ ap (usesAt k) (e ∙ ap (λ (ds : List Code). record-of ds s) w) ∙ uses-own k s) ∙ g

@@ -23,35 +23,35 @@ pub fn any_names(codes: &[u8], hops: &[u8], s: &[u8], at: usize, n: usize, key: 
     false
 }
 
-// Whether the key is the input manifest's of the job at a place, or begins with its output namespace.
-fn job_uses(s: &[u8], p: usize, key: &[u8]) -> bool
-    ensures { λ r. ⌜ r ≡ usesAt (now (key .entry)) (drop p (now (s .entry))) ⌝ }
+// Whether the key is the input manifest's of a job, or begins with its output namespace.
+fn job_uses(job: &[u8], key: &[u8]) -> bool
+    ensures { λ r. ⌜ r ≡ usesAt (now (key .entry)) (now (job .entry)) ⌝ }
 {
     let manifest_key = [64u8, 8, 8, 8, 8, 9];
     let namespace = [64u8, 8, 8, 8, 8, 9, 128, 8, 64, 64, 8, 8];
     if text::same(
-        fields::text_at(s, tables::skip_record(&manifest_key, s, p)),
+        fields::text_at(job, tables::skip_record(&manifest_key, job, 0)),
         key,
     ) {
         return true;
     }
     text::starts_with(
         key,
-        fields::text_at(s, tables::skip_record(&namespace, s, p)),
+        fields::text_at(job, tables::skip_record(&namespace, job, 0)),
     )
 }
 
-// Whether one of n jobs uses the key.
+// Whether one of n jobs uses the key: a reader walks them, and each is read by its own bytes.
 pub fn any_uses(s: &[u8], at: usize, n: usize, key: &[u8]) -> bool
     ensures { λ r. ⌜ r ≡ any (usesAt (now (key .entry))) (rows-at (codes job) n (drop at (now (s .entry)))) ⌝ }
 {
     let mut i = 0;
     let mut p = fields::within(s, at);
     while i < n {
-        if job_uses(s, p, key) {
+        if job_uses(reader::row_at(&image::JOB, s, p), key) {
             return true;
         }
-        p = tables::skip_record(&image::JOB, s, p);
+        p = reader::place_after(&image::JOB, s, p);
         i += 1;
     }
     false

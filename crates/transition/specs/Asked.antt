@@ -22,6 +22,8 @@ use Rattle.image.specs.declared.Opened.the-variants.{Image}
 use Rattle.requests.specs.Request.{decodeRequest, encodeRequest, WithinRequest}
 use Rattle.requests.specs.RequestLaws.{request-written}
 use Rattle.requests.specs.Meaning.{contextOf, faultsOf, actionOf, requestOf}
+use Rattle.requests.specs.Positions.{requestIn, parsedIn}
+use Rattle.requests.specs.declared.Parsed.{Parsed}
 use Rattle.requests.specs.declared.PublicationAction.{PublicationAction}
 use Rattle.requests.specs.declared.Request.{Request as RequestAt}
 use Rattle.entries.specs.Bytes.{settled, applyBytes}
@@ -37,14 +39,16 @@ pub record Asked (x : List ℕ) (c : Contents) (q : List ℕ) (r : RequestAt) : 
   pub opened : c ≡ contentsOf state
   pub asked : decodeRequest q ≡ answer (requestOf q r)
   pub request-is : q ≡ encodeRequest (requestOf q r)
+  pub placed : r ≡ requestIn q
   pub within : WithinRequest (requestOf q r)
 
-pub asked-of : (x q : List ℕ) (c : Contents) (r : RequestAt) → Bytes x → Bytes q → Image c ≡ openedOf (decodeImage x) → answer (requestOf q r) ≡ decodeRequest q → Asked x c q r
-asked-of x q c r bx bq o d =
+pub asked-of : (x q : List ℕ) (c : Contents) (r : RequestAt) → Bytes x → Bytes q → Image c ≡ openedOf (decodeImage x) → answer (requestOf q r) ≡ decodeRequest q → Parsed.Asked r ≡ parsedIn q (decodeRequest q) → Asked x c q r
+asked-of x q c r bx bq o d p =
     let (s, e, h) = opened-state (decodeImage x) c o in
     let (i, f) = one-image x s bx e in
     let (w, v) = request-written q (requestOf q r) bq (sym d) in
-    record { state = s; reads = e; image-is = i; formed = f; opened = h; asked = sym d; request-is = w; within = v }
+    let z : Parsed.Asked r ≡ Parsed.Asked (requestIn q) = p ∙ ap (parsedIn q) (sym d) in
+    record { state = s; reads = e; image-is = i; formed = f; opened = h; asked = sym d; request-is = w; placed = cc; within = v }
 
 -- 40, and the faults of a request
 pub no-image : {d e : List ℕ} {p : Applied} (x q : List ℕ) → decodeImage x ≡ none → p ≡ appliedOf (no 40) → Gave (applyBytes x q (length d) (length e)) d e p d e
@@ -100,6 +104,7 @@ module _ {x : List ℕ} {c : Contents} {q : List ℕ} {r : RequestAt} (a : Asked
       opened = a .opened;
       asked = a .asked;
       request-is = a .request-is;
+      placed = a .placed;
       within = a .within;
       format = format;
       valid = simp (ne-eqb (r .context .generation) 0 g, ne-eqb (r .context .position .index) 0 i);

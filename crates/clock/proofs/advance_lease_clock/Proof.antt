@@ -74,7 +74,7 @@ same-length-2 c = search needs
 
 returns-3 : tie.Need-returns-3
 returns-3 c = done (c .before .before .before .before .before .before .before .before .before .before .before .before .before .before .before .before .before .before .before .before .before .before .before .before .before .before .before .before .before .pre) (clock-advanced ((c .before .before .before .before .before .before .before .before .before .before .before .before .before .before .before .before .before .before .before .before .before .before .before .before .before .before .before .before .before .pre) .state) ((c .before .before .before .before .before .before .before .before .before .before .before .before .before .before .before .before .before .before .before .before .before .before .before .before .before .before .before .before .before .args) .a .«next_tick») ((c .before .before .before .before .before .before .before .before .before .before .before .before .before .before .before .before .before .before .before .before .before .before .before .before .before .before .before .before .before .args) .f .«omit_lease_root_epoch»)) (LeasesExpired (expired ((c .before .before .before .before .before .before .before .before .before .before .before .before .before .before .before .before .before .before .before .before .before .before .before .before .before .before .before .before .before .pre) .state) ((c .before .before .before .before .before .before .before .before .before .before .before .before .before .before .before .before .before .before .before .before .before .before .before .before .before .before .before .before .before .args) .a .«next_tick»))) 0 ((c .before .before .before .before .before .before .before .before .before .before .before .with-leases) .result)
-    (take (3 * (((c .before .before .before .before .before .before .before .before .before .before .before .before .before .before .before .before .before .before .before .before .before .before .before .before .before .before .before .before .before .args) .c .leases .count) + 2) - 0) (drop 0 ((c .before .before .before .before .before .before .before .before .before .before .body-parts) .result))) (PublicationOutcome.LeasesExpired (expiredAt ((c .before .before .before .before .before .before .before .before .before .before .before .before .before .before .before .before .before .before .before .before .before .before .before .before .before .before .before .before .before .args) .c) ((c .before .before .before .before .before .before .before .before .before .before .before .before .before .before .before .before .before .before .before .before .before .before .before .before .before .before .before .before .before .args) .a .«next_tick») ((c .before .before .before .before .before .before .before .before .before .before .before .before .before .before .before .before .count-rows) .result .ended)))
+    (take (3 * (((c .before .before .before .before .before .before .before .before .before .before .before .before .before .before .before .before .before .before .before .before .before .before .before .before .before .before .before .before .before .args) .c .leases .count) + 2) - 0) (drop 0 ((c .before .before .before .before .before .before .before .before .before .before .body-parts) .result))) ((c .before .before .before .before .before .before .before .before .before .before .before .before .before .before .before .before .before .before .before .before .before .before .before .before .before .before .before .before .before .args) .image .now) (PublicationOutcome.LeasesExpired (expiredAt ((c .before .before .before .before .before .before .before .before .before .before .before .before .before .before .before .before .before .before .before .before .before .before .before .before .before .before .before .before .before .args) .c) ((c .before .before .before .before .before .before .before .before .before .before .before .before .before .before .before .before .before .before .before .before .before .before .before .before .before .before .before .before .before .args) .a .«next_tick») ((c .before .before .before .before .before .before .before .before .before .before .before .before .before .before .before .before .count-rows) .result .ended)))
     (onward (c .before .before .before .before .before .before .before .before .before .before .before .before .before .before .before .before .before .before .before .before .before .before .before .before .before .before .before .before .before .pre) ((c .before .before .before .before .before .before .before .before .before .before .before .before .before .before .before .before .before .before .before .before .if1) .left) ((c .before .before .before .before .before .before .before .before .before .before .before .before .before .before .before .before .before .before .if2) .left))
     (advance-shows (c .before .before .before .before .before .before .before .before .before .before .before .before .before .before .before .before .before .before .before .before .before .before .before .before .before .before .before .before .before .pre) _ _ _ _ _ _ ((c .before .before .before .before .before .before .before .before .before .before .before .before .before .before .before .before .before .policy-for) .ensures) ((c .before .before .before .before .before .before .before .before .before .before .before .before .before .before .before .before .count-rows) .ensures) ((c .before .before .before .before .before .before .before .before .before .before .before .before .before .before .before .up-if) .ensures) ((c .before .before .before .before .before .before .before .before .before .before .before .before .before .before .root-after) .ensures) ((c .before .before .before .before .before .before .before .before .before .before .before .before .before .readable-for) .ensures) ((c .before .before .before .before .before .before .before .before .before .before .before .before .less) .ensures) _ ((c .before .before .before .before .before .before .before .before .before .before .before .with-leases) .ensures))
     (front-gathers ((c .before .before .before .before .before .before .before .before .before .before .before .before .before .before .before .before .before .before .before .before .before .before .before .before .before .before .before .before .before .args) .image .now) ((c .before .before .before .before .before .before .before .before .before .before .before .before .before .before .before .before .before .before .before .before .before .before .before .before .before .before .before .before .before .args) .request .now) _ _ ((c .before .before .before .before .before .before .before .before .before .before .body-parts) .ensures .1) ∙ advance-tables (c .before .before .before .before .before .before .before .before .before .before .before .before .before .before .before .before .before .before .before .before .before .before .before .before .before .before .before .before .before .pre) ((c .before .before .before .before .before .before .before .before .before .before .body-parts) .ensures .0))

@@ -1,3 +1,4 @@
+use mathlib.Core.Path.{refl}
 use mathlib.Core.List.{[], _∷_}
 use lib.ListN.{length}
 use Rattle.machine.specs.Actions.{Applied}
@@ -5,7 +6,6 @@ use Rattle.machine.specs.Next.{root-configured}
 use Rattle.requests.specs.Meaning.{textOf}
 use Rattle.next.specs.Call.{refused, done}
 use Rattle.next.specs.Kept.{whole-tables}
-use Rattle.next.specs.Outcome.{applied-told}
 use Rattle.collection.specs.Configure.{no-root, unknown-root, other-root, jobs-stand, configured, configured-shows, configured-small}
 use Rattle.next.specs.declared.PublicationOutcome.{PublicationOutcome}
 use borrow.Author.Needs.{needs}
@@ -67,11 +67,11 @@ same-length-2 : tie.Need-same-length-2
 same-length-2 c = search needs
 
 returns-5 : tie.Need-returns-5
-returns-5 c = done (c .before .before .before .before .before .before .before .before .before .before .before .before .before .before .before .before .before .before .before .before .before .before .before .before .before .before .before .pre) (root-configured ((c .before .before .before .before .before .before .before .before .before .before .before .before .before .before .before .before .before .before .before .before .before .before .before .before .before .before .before .pre) .state) (textOf ((c .before .before .before .before .before .before .before .before .before .before .before .before .before .before .before .before .before .before .before .before .before .before .before .before .before .before .before .args) .request .now) ((c .before .before .before .before .before .before .before .before .before .before .before .before .before .before .before .before .before .before .before .before .before .before .before .before .before .before .before .args) .a .«destination_root»))) Applied 1 ((c .before .before .before .before .before .before .before .before .contents-after) .result) (0 ∷ (c .before .before .before .before .before .before .before .before .before .before .before .before .before .before .before .before .before .before .before .before .before .before .before .before .before .before .before .args) .c .intents .at ∷ length ((c .before .before .before .before .before .before .before .before .before .before .before .before .before .before .before .before .before .before .before .before .before .before .before .before .before .before .before .args) .image .now) ∷ []) PublicationOutcome.Applied
+returns-5 c = done (c .before .before .before .before .before .before .before .before .before .before .before .before .before .before .before .before .before .before .before .before .before .before .before .before .before .before .before .pre) (root-configured ((c .before .before .before .before .before .before .before .before .before .before .before .before .before .before .before .before .before .before .before .before .before .before .before .before .before .before .before .pre) .state) (textOf ((c .before .before .before .before .before .before .before .before .before .before .before .before .before .before .before .before .before .before .before .before .before .before .before .before .before .before .before .args) .request .now) ((c .before .before .before .before .before .before .before .before .before .before .before .before .before .before .before .before .before .before .before .before .before .before .before .before .before .before .before .args) .a .«destination_root»))) Applied 1 ((c .before .before .before .before .before .before .before .before .contents-after) .result) (0 ∷ (c .before .before .before .before .before .before .before .before .before .before .before .before .before .before .before .before .before .before .before .before .before .before .before .before .before .before .before .args) .c .intents .at ∷ length ((c .before .before .before .before .before .before .before .before .before .before .before .before .before .before .before .before .before .before .before .before .before .before .before .before .before .before .before .args) .image .now) ∷ []) ((c .before .before .before .before .before .before .before .before .before .before .before .before .before .before .before .before .before .before .before .before .before .before .before .before .before .before .before .args) .image .now) PublicationOutcome.Applied
     (configured (c .before .before .before .before .before .before .before .before .before .before .before .before .before .before .before .before .before .before .before .before .before .before .before .before .before .before .before .pre) _ ((c .before .before .before .before .before .before .before .before .before .before .before .before .before .before .before .before .before .before .clip) .ensures) ((c .before .before .before .before .before .before .before .before .before .before .before .before .before .before .before .before .before .if1) .left) _ ((c .before .before .before .before .before .before .before .before .before .before .before .before .before .before .before .located) .ensures) ((c .before .before .before .before .before .before .before .before .before .before .before .before .before .before .if2) .left) _ ((c .before .before .before .before .before .before .before .before .before .before .before .before .before .same-maybe) .ensures) ((c .before .before .before .before .before .before .before .before .before .before .before .before .if3) .left) ((c .before .before .before .before .before .before .before .before .before .before .if4) .left))
     (configured-shows (c .before .before .before .before .before .before .before .before .before .before .before .before .before .before .before .before .before .before .before .before .before .before .before .before .before .before .before .pre) _ ((c .before .before .before .before .before .before .before .before .before .before .before .before .before .before .before .before .before .before .clip) .ensures) _ ((c .before .before .before .before .before .before .before .before .before .less) .ensures) _ ((c .before .before .before .before .before .before .before .before .contents-after) .ensures))
     (whole-tables ((c .before .before .before .before .before .before .before .before .before .before .before .before .before .before .before .before .before .before .before .before .before .before .before .before .before .before .before .pre) .state) ((c .before .before .before .before .before .before .before .before .before .before .before .before .before .before .before .before .before .before .before .before .before .before .before .before .before .before .before .args) .image .now) ((c .before .before .before .before .before .before .before .before .before .before .before .before .before .before .before .before .before .before .before .before .before .before .before .before .before .before .before .args) .request .now) ((c .before .before .before .before .before .before .before .before .before .before .before .before .before .before .before .before .before .before .before .before .before .before .before .before .before .before .before .pre) .image-is) ((c .before .before .before .before .before .before .before .before .before .before .before .before .before .before .before .before .before .before .before .before .before .before .before .before .before .before .before .args) .c) ((c .before .before .before .before .before .before .before .before .before .before .before .before .before .before .before .before .before .before .before .before .before .before .before .before .before .before .before .pre) .opened))
-    (applied-told ((c .before .before .before .before .before .before .before .before .before .before .before .before .before .before .before .before .before .before .before .before .before .before .before .before .before .before .before .args) .image .now) ((c .before .before .before .before .before .before .before .before .before .before .before .before .before .before .before .before .before .before .before .before .before .before .before .before .before .before .before .args) .request .now))
+    refl
     ((c .before .before .before .before .emit) .ensures)
 
 pub configure-collection-root-spec : {M : Type 1} → statement M

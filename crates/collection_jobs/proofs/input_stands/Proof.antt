@@ -4,11 +4,11 @@ use borrow.Author.Needs.{needs}
 use Rattle.collection_jobs.proofs.input_stands.Statement.{statement}
 use Rattle.collection_jobs.proofs.input_stands.Tie as tie
 
-slice-aggregate-locate : tie.Need-slice-aggregate-locate
-slice-aggregate-locate c = search needs
+slice-aggregate-find : tie.Need-slice-aggregate-find
+slice-aggregate-find c = search needs
 
-locate-requires : tie.Need-locate-requires
-locate-requires c κs = search needs
+find-requires : tie.Need-find-requires
+find-requires c κs = search needs
 
 slice-aggregate-skip-record : tie.Need-slice-aggregate-skip-record
 slice-aggregate-skip-record c = search needs
@@ -29,14 +29,14 @@ row-holds-requires : tie.Need-row-holds-requires
 row-holds-requires c κs = search needs
 
 returns : tie.Need-returns
-returns c = (c .row-holds) .ensures ∙ input-is ((c .before .before .before .before .before .before .before .before .before .before .args) .image .now) ((c .before .before .before .before .before .before .before .before .before .before .args) .roots) ((c .before .before .before .before .before .before .before .before .before .before .args) .root .now) ((c .before .before .before .before .before .before .before .before .before .before .args) .request .now) ((c .before .before .before .before .before .before .before .before .before .before .args) .at) _ ((c .before .before .before .before .before .locate) .ensures) _ ((c .before .before .before .skip-record) .ensures) _ ((c .before .before .less) .ensures) _ ((c .before .clip) .ensures)
+returns c = (c .row-holds) .ensures ∙ input-is ((c .before .before .before .before .before .before .before .before .before .before .args) .image .now) ((c .before .before .before .before .before .before .before .before .before .before .args) .roots) ((c .before .before .before .before .before .before .before .before .before .before .args) .root .now) ((c .before .before .before .before .before .before .before .before .before .before .args) .request .now) ((c .before .before .before .before .before .before .before .before .before .before .args) .at) _ ((c .before .before .before .before .before .find) .ensures) _ ((c .before .before .before .skip-record) .ensures) _ ((c .before .before .less) .ensures) _ ((c .before .clip) .ensures)
 
 pub input-stands-spec : {M : Type 1} → statement M
 input-stands-spec =
     tie.close
     (tie.spec
-    slice-aggregate-locate
-    locate-requires
+    slice-aggregate-find
+    find-requires
     slice-aggregate-skip-record
     skip-record-requires
     less-requires

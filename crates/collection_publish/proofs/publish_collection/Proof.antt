@@ -1,3 +1,4 @@
+use mathlib.Core.Path.{refl}
 use Prim.Native.Nat.{_+_}
 use mathlib.Core.List.{[], _∷_}
 use lib.ListN.{length}
@@ -5,7 +6,7 @@ use native.Mathlib.Omega.{arith}
 use Rattle.machine.specs.Actions.{CollectionPublished}
 use Rattle.machine.specs.Next.{collection-published}
 use Rattle.next.specs.Call.{refused, done}
-use Rattle.collection_publish.specs.Publish.{receipt, publish-short, publish-no, publish-yes, name-fits, size-fits, insert-fits, published-small, published-shows, published-body, published-told}
+use Rattle.collection_publish.specs.Publish.{receipt, publish-short, publish-no, publish-yes, name-fits, size-fits, insert-fits, published-small, published-shows, published-body, receipt-fits}
 use Rattle.next.specs.declared.PublicationOutcome.{PublicationOutcome}
 use borrow.Author.Needs.{needs}
 use Rattle.collection_publish.proofs.publish_collection.Statement.{statement}
@@ -87,7 +88,7 @@ slice-aggregate-emit : tie.Need-slice-aggregate-emit
 slice-aggregate-emit c = search needs
 
 emit-requires : tie.Need-emit-requires
-emit-requires c κs = (published-small (c .before .before .before .before .before .before .before .before .before .before .before .before .before .before .before .before .before .before .before .before .before .before .before .before .before .before .before .before .before .before .before .before .before .pre) _ _ ((c .before .before .before .before .before .before .before .before .before .before .before .before .before .before .before .before .before .before .before .before .clip) .ensures) ((c .before .before .before .before .before .before .before .before .before .before .before .before .before .before .before .before .before .before .before .clip2) .ensures) _ ((c .before .before .before .before .before .before .before .before .before .before .before .before .before .before .before .before .before .skip-record) .ensures) _ ((c .before .before .before .before .before .before .before .before .before .before .before .before .before .before .before .skip-record2) .ensures) _ ((c .before .before .before .before .before .before .before .before .before .before .before .before .before .skip-record3) .ensures) _ ((c .before .before .before .before .before .before .before .before .before .before .before .before .less) .ensures) _ ((c .before .before .before .before .before .before .before .before .before .before .locate) .ensures) _ ((c .before .before .before .before .before .before .before .before .locate2) .ensures) _ _ ((c .before .before .before .before .before .before .before .after-insert) .ensures) ((c .before .before .before .before .before .before .after-remove) .ensures) _ ((c .before .before .before .before .before .contents-after) .ensures), tt)
+emit-requires c κs = (published-small (c .before .before .before .before .before .before .before .before .before .before .before .before .before .before .before .before .before .before .before .before .before .before .before .before .before .before .before .before .before .before .before .before .before .pre) _ _ ((c .before .before .before .before .before .before .before .before .before .before .before .before .before .before .before .before .before .before .before .before .clip) .ensures) ((c .before .before .before .before .before .before .before .before .before .before .before .before .before .before .before .before .before .before .before .clip2) .ensures) _ ((c .before .before .before .before .before .before .before .before .before .before .before .before .before .before .before .before .before .skip-record) .ensures) _ ((c .before .before .before .before .before .before .before .before .before .before .before .before .before .before .before .skip-record2) .ensures) _ ((c .before .before .before .before .before .before .before .before .before .before .before .before .before .skip-record3) .ensures) _ ((c .before .before .before .before .before .before .before .before .before .before .before .before .less) .ensures) _ ((c .before .before .before .before .before .before .before .before .before .before .locate) .ensures) _ ((c .before .before .before .before .before .before .before .before .locate2) .ensures) _ _ ((c .before .before .before .before .before .before .before .after-insert) .ensures) ((c .before .before .before .before .before .before .after-remove) .ensures) _ ((c .before .before .before .before .before .contents-after) .ensures), receipt-fits (c .before .before .before .before .before .before .before .before .before .before .before .before .before .before .before .before .before .before .before .before .before .before .before .before .before .before .before .before .before .before .before .before .before .pre))
 
 same-length : tie.Need-same-length
 same-length c = search needs
@@ -98,11 +99,11 @@ same-length-2 c = search needs
 returns-2 : tie.Need-returns-2
 returns-2 c = done (c .before .before .before .before .before .before .before .before .before .before .before .before .before .before .before .before .before .before .before .before .before .before .before .before .before .before .before .before .before .before .before .before .before .before .before .before .before .before .pre) (collection-published ((c .before .before .before .before .before .before .before .before .before .before .before .before .before .before .before .before .before .before .before .before .before .before .before .before .before .before .before .before .before .before .before .before .before .before .before .before .before .before .pre) .state) (receipt (c .before .before .before .before .before .before .before .before .before .before .before .before .before .before .before .before .before .before .before .before .before .before .before .before .before .before .before .before .before .before .before .before .before .before .before .before .before .before .pre) .token) (receipt (c .before .before .before .before .before .before .before .before .before .before .before .before .before .before .before .before .before .before .before .before .before .before .before .before .before .before .before .before .before .before .before .before .before .before .before .before .before .before .pre) .output-manifest)) (CollectionPublished (receipt (c .before .before .before .before .before .before .before .before .before .before .before .before .before .before .before .before .before .before .before .before .before .before .before .before .before .before .before .before .before .before .before .before .before .before .before .before .before .before .pre))) 0 ((c .before .before .before .before .before .before .before .before .before .before .contents-after) .result)
     (0 ∷ (c .before .before .before .before .before .before .before .before .before .before .before .before .before .before .before .before .before .before .before .before .before .before .before .before .before .before .before .before .before .before .before .before .before .before .before .before .before .before .args) .c .intents .at ∷ (c .before .before .before .before .before .before .before .before .before .less2) .result ∷ 1 ∷ (c .before .before .before .before .before .before .before .before .before .before .before .before .before .before .before .before .before .before .before .before .before .before .skip-record) .result ∷ (length ((c .before .before .before .before .before .before .before .before .before .before .before .before .before .before .before .before .before .before .before .before .before .before .before .before .clip2) .result .now) + 1) ∷ 1 ∷ (c .before .before .before .before .before .before .before .before .before .before .before .before .before .before .before .before .before .before .before .before .skip-record2) .result ∷ (c .before .before .before .before .before .before .before .before .before .before .before .before .before .before .before .before .before .less) .result ∷ 0 ∷ (c .before .before .before .before .before .before .before .before .before .before .before .before .before .before .before .locate) .result .end ∷ (c .before .before .before .before .before .before .before .before .less3) .result ∷ 0 ∷ (c .before .before .before .before .before .before .before .before .before .before .before .before .before .locate2) .result .end ∷ length ((c .before .before .before .before .before .before .before .before .before .before .before .before .before .before .before .before .before .before .before .before .before .before .before .before .before .before .before .before .before .before .before .before .before .before .before .before .before .before .args) .image .now) ∷ [])
-    (PublicationOutcome.CollectionPublished (record { receipt = record { at = 27; len = length ((c .before .before .before .before .before .before .before .before .before .before .before .before .before .before .before .before .before .before .before .before .before .before .before .before .before .before .before .before .before .before .before .before .before .before .before .before .before .before .args) .request .now) } }))
+    ((c .before .before .before .before .before .before .before .before .before .before .before .before .before .before .before .before .before .before .before .before .before .before .before .before .before .before .before .before .before .before .before .before .before .before .before .before .before .before .args) .image .now) (PublicationOutcome.CollectionPublished ((c .before .before .before .before .before .before .before .before .before .before .before .before .before .before .before .before .before .before .before .before .before .before .before .before .before .before .before .before .before .before .before .before .before .before .before .before .before .before .args) .a))
     (publish-yes (c .before .before .before .before .before .before .before .before .before .before .before .before .before .before .before .before .before .before .before .before .before .before .before .before .before .before .before .before .before .before .before .before .before .before .before .before .before .before .pre) _ ((c .before .before .before .before .before .before .before .before .before .before .before .before .before .before .before .before .before .before .before .before .before .before .before .before .before .before .before .publish-refusal) .ensures) ((c .before .before .before .before .before .before .before .before .before .before .before .before .before .before .before .before .before .before .before .before .before .before .before .before .before .before .if1) .left))
     (published-shows (c .before .before .before .before .before .before .before .before .before .before .before .before .before .before .before .before .before .before .before .before .before .before .before .before .before .before .before .before .before .before .before .before .before .before .before .before .before .before .pre) _ _ ((c .before .before .before .before .before .before .before .before .before .before .before .before .before .before .before .before .before .before .before .before .before .before .before .before .before .clip) .ensures) ((c .before .before .before .before .before .before .before .before .before .before .before .before .before .before .before .before .before .before .before .before .before .before .before .before .clip2) .ensures) _ ((c .before .before .before .before .before .before .before .before .before .before .before .before .before .before .before .before .before .before .before .before .before .before .skip-record) .ensures) _ ((c .before .before .before .before .before .before .before .before .before .before .before .before .before .before .before .before .before .before .before .before .skip-record2) .ensures) _ ((c .before .before .before .before .before .before .before .before .before .before .before .before .before .before .before .before .before .before .skip-record3) .ensures) _ ((c .before .before .before .before .before .before .before .before .before .before .before .before .before .before .before .before .before .less) .ensures) _ ((c .before .before .before .before .before .before .before .before .before .before .before .before .before .before .before .locate) .ensures) _ ((c .before .before .before .before .before .before .before .before .before .before .before .before .before .locate2) .ensures) _ _ ((c .before .before .before .before .before .before .before .before .before .before .before .before .after-insert) .ensures) ((c .before .before .before .before .before .before .before .before .before .before .before .after-remove) .ensures) _ ((c .before .before .before .before .before .before .before .before .before .before .contents-after) .ensures))
     (published-body (c .before .before .before .before .before .before .before .before .before .before .before .before .before .before .before .before .before .before .before .before .before .before .before .before .before .before .before .before .before .before .before .before .before .before .before .before .before .before .pre) _ _ ((c .before .before .before .before .before .before .before .before .before .before .before .before .before .before .before .before .before .before .before .before .before .before .before .before .before .clip) .ensures) ((c .before .before .before .before .before .before .before .before .before .before .before .before .before .before .before .before .before .before .before .before .before .before .before .before .clip2) .ensures) _ ((c .before .before .before .before .before .before .before .before .before .before .before .before .before .before .before .before .before .before .before .before .before .before .skip-record) .ensures) _ ((c .before .before .before .before .before .before .before .before .before .before .before .before .before .before .before .before .before .before .before .before .skip-record2) .ensures) _ ((c .before .before .before .before .before .before .before .before .before .before .before .before .before .before .before .before .before .before .skip-record3) .ensures) _ ((c .before .before .before .before .before .before .before .before .before .before .before .before .before .before .before .before .before .less) .ensures) _ ((c .before .before .before .before .before .before .before .before .before .before .before .before .before .before .before .locate) .ensures) _ ((c .before .before .before .before .before .before .before .before .before .before .before .before .before .locate2) .ensures) _ _ ((c .before .before .before .before .before .before .before .before .before .less2) .ensures) ((c .before .before .before .before .before .before .before .before .less3) .ensures))
-    (published-told (c .before .before .before .before .before .before .before .before .before .before .before .before .before .before .before .before .before .before .before .before .before .before .before .before .before .before .before .before .before .before .before .before .before .before .before .before .before .before .pre))
+    refl
     ((c .before .before .before .before .emit) .ensures)
 
 pub publish-collection-spec : {M : Type 1} → statement M

@@ -27,38 +27,32 @@ same-manifest-requires c κs = search needs
 returns-2 : tie.Need-returns-2
 returns-2 c = at-same ((c .before .before .before .before .before .before .before .before .before .before .before .before .args) .image .now) ((c .before .before .before .before .before .before .before .before .before .before .before .before .args) .c) ((c .before .before .before .before .before .before .before .before .before .before .before .before .args) .request .now) ((c .before .before .before .before .before .before .before .before .before .before .before .before .args) .x) ((c .before .before .before .before .before .before .before .before .before .before .before .before .args) .a) _ ((c .before .before .before .before .before .before .valid-receipt) .ensures) ((c .before .before .before .before .before .if1) .left) _ ((c .before .before .before .before .clip) .ensures) _ ((c .before .before .skip-record) .ensures) _ ((c .before .same-manifest) .ensures) ((c .if2) .taken)
 
-slice-aggregate-locate : tie.Need-slice-aggregate-locate
-slice-aggregate-locate c = search needs
+slice-aggregate-find : tie.Need-slice-aggregate-find
+slice-aggregate-find c = search needs
 
-locate-requires : tie.Need-locate-requires
-locate-requires c κs = search needs
+find-requires : tie.Need-find-requires
+find-requires c κs = search needs
 
 returns-3 : tie.Need-returns-3
-returns-3 c = at-missing ((c .before .before .before .before .before .before .before .before .before .before .before .before .before .before .before .before .args) .image .now) ((c .before .before .before .before .before .before .before .before .before .before .before .before .before .before .before .before .args) .c) ((c .before .before .before .before .before .before .before .before .before .before .before .before .before .before .before .before .args) .request .now) ((c .before .before .before .before .before .before .before .before .before .before .before .before .before .before .before .before .args) .x) ((c .before .before .before .before .before .before .before .before .before .before .before .before .before .before .before .before .args) .a) _ ((c .before .before .before .before .before .before .before .before .before .before .valid-receipt) .ensures) ((c .before .before .before .before .before .before .before .before .before .if1) .left) _ ((c .before .before .before .before .before .before .before .before .clip) .ensures) _ ((c .before .before .before .before .before .before .skip-record) .ensures) _ ((c .before .before .before .before .before .same-manifest) .ensures) ((c .before .before .before .before .if2) .left) _ ((c .before .before .locate) .ensures) ((c .if3) .taken)
-
-sub-clip : tie.Need-sub-clip
-sub-clip c = search needs
-
-clip-requires-2 : tie.Need-clip-requires-2
-clip-requires-2 c κs = search needs
+returns-3 c = at-missing ((c .before .before .before .before .before .before .before .before .before .before .before .before .before .before .before .args) .image .now) ((c .before .before .before .before .before .before .before .before .before .before .before .before .before .before .before .args) .c) ((c .before .before .before .before .before .before .before .before .before .before .before .before .before .before .before .args) .request .now) ((c .before .before .before .before .before .before .before .before .before .before .before .before .before .before .before .args) .x) ((c .before .before .before .before .before .before .before .before .before .before .before .before .before .before .before .args) .a) _ ((c .before .before .before .before .before .before .before .before .before .valid-receipt) .ensures) ((c .before .before .before .before .before .before .before .before .if1) .left) _ ((c .before .before .before .before .before .before .before .clip) .ensures) _ ((c .before .before .before .before .before .skip-record) .ensures) _ ((c .before .before .before .before .same-manifest) .ensures) ((c .before .before .before .if2) .left) _ ((c .before .find) .ensures) ((c .if3) .taken)
 
 less-requires : tie.Need-less-requires
 less-requires c κs = search needs
 
-clip-requires-3 : tie.Need-clip-requires-3
-clip-requires-3 c κs = search needs
+clip-requires-2 : tie.Need-clip-requires-2
+clip-requires-2 c κs = search needs
 
 same-requires : tie.Need-same-requires
 same-requires c κs = search needs
 
 returns-4 : tie.Need-returns-4
-returns-4 c = at-mismatch ((c .before .before .before .before .before .before .before .before .before .before .before .before .before .before .before .before .before .before .before .before .before .before .args) .image .now) ((c .before .before .before .before .before .before .before .before .before .before .before .before .before .before .before .before .before .before .before .before .before .before .args) .c) ((c .before .before .before .before .before .before .before .before .before .before .before .before .before .before .before .before .before .before .before .before .before .before .args) .request .now) ((c .before .before .before .before .before .before .before .before .before .before .before .before .before .before .before .before .before .before .before .before .before .before .args) .x) ((c .before .before .before .before .before .before .before .before .before .before .before .before .before .before .before .before .before .before .before .before .before .before .args) .a) _ ((c .before .before .before .before .before .before .before .before .before .before .before .before .before .before .before .before .valid-receipt) .ensures) ((c .before .before .before .before .before .before .before .before .before .before .before .before .before .before .before .if1) .left) _ ((c .before .before .before .before .before .before .before .before .before .before .before .before .before .before .clip) .ensures) _ ((c .before .before .before .before .before .before .before .before .before .before .before .before .skip-record) .ensures) _ ((c .before .before .before .before .before .before .before .before .before .before .before .same-manifest) .ensures) ((c .before .before .before .before .before .before .before .before .before .before .if2) .left) _ ((c .before .before .before .before .before .before .before .before .locate) .ensures) ((c .before .before .before .before .before .before .if3) .left) _ _ _ ((c .before .before .before .less) .ensures) ((c .before .before .before .before .clip2) .ensures) ((c .before .before .clip3) .ensures) _ ((c .before .same) .ensures) ((c .if4) .taken)
+returns-4 c = at-mismatch ((c .before .before .before .before .before .before .before .before .before .before .before .before .before .before .before .before .before .before .before .args) .image .now) ((c .before .before .before .before .before .before .before .before .before .before .before .before .before .before .before .before .before .before .before .args) .c) ((c .before .before .before .before .before .before .before .before .before .before .before .before .before .before .before .before .before .before .before .args) .request .now) ((c .before .before .before .before .before .before .before .before .before .before .before .before .before .before .before .before .before .before .before .args) .x) ((c .before .before .before .before .before .before .before .before .before .before .before .before .before .before .before .before .before .before .before .args) .a) _ ((c .before .before .before .before .before .before .before .before .before .before .before .before .before .valid-receipt) .ensures) ((c .before .before .before .before .before .before .before .before .before .before .before .before .if1) .left) _ ((c .before .before .before .before .before .before .before .before .before .before .before .clip) .ensures) _ ((c .before .before .before .before .before .before .before .before .before .skip-record) .ensures) _ ((c .before .before .before .before .before .before .before .before .same-manifest) .ensures) ((c .before .before .before .before .before .before .before .if2) .left) _ ((c .before .before .before .before .before .find) .ensures) ((c .before .before .before .before .if3) .left) _ _ ((c .before .before .before .less) .ensures) ((c .before .before .clip2) .ensures) _ ((c .before .same) .ensures) ((c .if4) .taken)
 
 returns-5 : tie.Need-returns-5
-returns-5 c = at-owner ((c .before .before .before .before .before .before .before .before .before .before .before .before .before .before .before .before .before .before .before .before .before .before .before .before .before .args) .image .now) ((c .before .before .before .before .before .before .before .before .before .before .before .before .before .before .before .before .before .before .before .before .before .before .before .before .before .args) .c) ((c .before .before .before .before .before .before .before .before .before .before .before .before .before .before .before .before .before .before .before .before .before .before .before .before .before .args) .request .now) ((c .before .before .before .before .before .before .before .before .before .before .before .before .before .before .before .before .before .before .before .before .before .before .before .before .before .args) .x) ((c .before .before .before .before .before .before .before .before .before .before .before .before .before .before .before .before .before .before .before .before .before .before .before .before .before .args) .a) _ ((c .before .before .before .before .before .before .before .before .before .before .before .before .before .before .before .before .before .before .before .valid-receipt) .ensures) ((c .before .before .before .before .before .before .before .before .before .before .before .before .before .before .before .before .before .before .if1) .left) _ ((c .before .before .before .before .before .before .before .before .before .before .before .before .before .before .before .before .before .clip) .ensures) _ ((c .before .before .before .before .before .before .before .before .before .before .before .before .before .before .before .skip-record) .ensures) _ ((c .before .before .before .before .before .before .before .before .before .before .before .before .before .before .same-manifest) .ensures) ((c .before .before .before .before .before .before .before .before .before .before .before .before .before .if2) .left) _ ((c .before .before .before .before .before .before .before .before .before .before .before .locate) .ensures) ((c .before .before .before .before .before .before .before .before .before .if3) .left) _ _ _ ((c .before .before .before .before .before .before .less) .ensures) ((c .before .before .before .before .before .before .before .clip2) .ensures) ((c .before .before .before .before .before .clip3) .ensures) _ ((c .before .before .before .before .same) .ensures) ((c .before .before .before .if4) .left) ((c .if5) .taken)
+returns-5 c = at-owner ((c .before .before .before .before .before .before .before .before .before .before .before .before .before .before .before .before .before .before .before .before .before .before .args) .image .now) ((c .before .before .before .before .before .before .before .before .before .before .before .before .before .before .before .before .before .before .before .before .before .before .args) .c) ((c .before .before .before .before .before .before .before .before .before .before .before .before .before .before .before .before .before .before .before .before .before .before .args) .request .now) ((c .before .before .before .before .before .before .before .before .before .before .before .before .before .before .before .before .before .before .before .before .before .before .args) .x) ((c .before .before .before .before .before .before .before .before .before .before .before .before .before .before .before .before .before .before .before .before .before .before .args) .a) _ ((c .before .before .before .before .before .before .before .before .before .before .before .before .before .before .before .before .valid-receipt) .ensures) ((c .before .before .before .before .before .before .before .before .before .before .before .before .before .before .before .if1) .left) _ ((c .before .before .before .before .before .before .before .before .before .before .before .before .before .before .clip) .ensures) _ ((c .before .before .before .before .before .before .before .before .before .before .before .before .skip-record) .ensures) _ ((c .before .before .before .before .before .before .before .before .before .before .before .same-manifest) .ensures) ((c .before .before .before .before .before .before .before .before .before .before .if2) .left) _ ((c .before .before .before .before .before .before .before .before .find) .ensures) ((c .before .before .before .before .before .before .before .if3) .left) _ _ ((c .before .before .before .before .before .before .less) .ensures) ((c .before .before .before .before .before .clip2) .ensures) _ ((c .before .before .before .before .same) .ensures) ((c .before .before .before .if4) .left) ((c .if5) .taken)
 
 returns-6 : tie.Need-returns-6
-returns-6 c = at-job ((c .before .before .before .before .before .before .before .before .before .before .before .before .before .before .before .before .before .before .before .before .before .before .before .before .before .args) .image .now) ((c .before .before .before .before .before .before .before .before .before .before .before .before .before .before .before .before .before .before .before .before .before .before .before .before .before .args) .c) ((c .before .before .before .before .before .before .before .before .before .before .before .before .before .before .before .before .before .before .before .before .before .before .before .before .before .args) .request .now) ((c .before .before .before .before .before .before .before .before .before .before .before .before .before .before .before .before .before .before .before .before .before .before .before .before .before .args) .x) ((c .before .before .before .before .before .before .before .before .before .before .before .before .before .before .before .before .before .before .before .before .before .before .before .before .before .args) .a) _ ((c .before .before .before .before .before .before .before .before .before .before .before .before .before .before .before .before .before .before .before .valid-receipt) .ensures) ((c .before .before .before .before .before .before .before .before .before .before .before .before .before .before .before .before .before .before .if1) .left) _ ((c .before .before .before .before .before .before .before .before .before .before .before .before .before .before .before .before .before .clip) .ensures) _ ((c .before .before .before .before .before .before .before .before .before .before .before .before .before .before .before .skip-record) .ensures) _ ((c .before .before .before .before .before .before .before .before .before .before .before .before .before .before .same-manifest) .ensures) ((c .before .before .before .before .before .before .before .before .before .before .before .before .before .if2) .left) _ ((c .before .before .before .before .before .before .before .before .before .before .before .locate) .ensures) ((c .before .before .before .before .before .before .before .before .before .if3) .left) _ _ _ ((c .before .before .before .before .before .before .less) .ensures) ((c .before .before .before .before .before .before .before .clip2) .ensures) ((c .before .before .before .before .before .clip3) .ensures) _ ((c .before .before .before .before .same) .ensures) ((c .before .before .before .if4) .left) ((c .if5) .left)
+returns-6 c = at-job ((c .before .before .before .before .before .before .before .before .before .before .before .before .before .before .before .before .before .before .before .before .before .before .args) .image .now) ((c .before .before .before .before .before .before .before .before .before .before .before .before .before .before .before .before .before .before .before .before .before .before .args) .c) ((c .before .before .before .before .before .before .before .before .before .before .before .before .before .before .before .before .before .before .before .before .before .before .args) .request .now) ((c .before .before .before .before .before .before .before .before .before .before .before .before .before .before .before .before .before .before .before .before .before .before .args) .x) ((c .before .before .before .before .before .before .before .before .before .before .before .before .before .before .before .before .before .before .before .before .before .before .args) .a) _ ((c .before .before .before .before .before .before .before .before .before .before .before .before .before .before .before .before .valid-receipt) .ensures) ((c .before .before .before .before .before .before .before .before .before .before .before .before .before .before .before .if1) .left) _ ((c .before .before .before .before .before .before .before .before .before .before .before .before .before .before .clip) .ensures) _ ((c .before .before .before .before .before .before .before .before .before .before .before .before .skip-record) .ensures) _ ((c .before .before .before .before .before .before .before .before .before .before .before .same-manifest) .ensures) ((c .before .before .before .before .before .before .before .before .before .before .if2) .left) _ ((c .before .before .before .before .before .before .before .before .find) .ensures) ((c .before .before .before .before .before .before .before .if3) .left) _ _ ((c .before .before .before .before .before .before .less) .ensures) ((c .before .before .before .before .before .clip2) .ensures) _ ((c .before .before .before .before .same) .ensures) ((c .before .before .before .if4) .left) ((c .if5) .left)
 
 pub receipt-refusal-spec : {M : Type 1} → statement M
 receipt-refusal-spec =
@@ -72,13 +66,11 @@ receipt-refusal-spec =
     add-same-manifest
     same-manifest-requires
     returns-2
-    slice-aggregate-locate
-    locate-requires
+    slice-aggregate-find
+    find-requires
     returns-3
-    sub-clip
-    clip-requires-2
     less-requires
-    clip-requires-3
+    clip-requires-2
     same-requires
     returns-4
     returns-5

@@ -6,7 +6,7 @@ use lib.ListN.{length}
 use Rattle.machine.specs.Actions.{DeleteReserved}
 use Rattle.machine.specs.Next.{reserved}
 use Rattle.next.specs.Call.{refused, done}
-use Rattle.deletion.specs.ReserveCall.{reservedAt, permit-made, refusal, exists, taken, request-short, plan-short, table-small, told-made, body-more, shows-more, small-more}
+use Rattle.deletion.specs.ReserveCall.{permit-told, permit-made, refusal, exists, taken, request-short, plan-short, table-small, permit-fits, body-more, shows-more, small-more}
 use Rattle.next.specs.declared.PublicationOutcome.{PublicationOutcome}
 use borrow.Author.Needs.{needs}
 use Rattle.deletion.proofs.reserve_delete.Statement.{statement}
@@ -70,7 +70,7 @@ slice-aggregate-emit : tie.Need-slice-aggregate-emit
 slice-aggregate-emit c = search needs
 
 emit-requires : tie.Need-emit-requires
-emit-requires c κs = (small-more (c .before .before .before .before .before .before .before .before .before .before .before .before .before .before .before .before .before .before .before .before .before .before .before .before .pre) ((c .before .before .before .before .before .before .before .before .before .clip2) .result .now) ((c .before .before .before .before .before .before .before .before .before .clip2) .ensures) (1 + length ((c .before .before .before .before .before .before .before .before .before .clip2) .result .now)) (35 + (1 + length ((c .before .before .before .before .before .before .before .before .before .clip2) .result .now))) ((c .before .before .before .before .before .before .before .before .less) .result) refl refl ((c .before .before .before .before .before .before .before .before .less) .ensures) ((c .before .before .before .before .before .before .before .before .before .before .before .before .before .before .before .before .clip) .result .now) ((c .before .before .before .before .before .before .before .before .before .before .before .before .before .locate) .result) ((c .before .before .before .before .before .before .before .before .before .before .before .before .before .before .before .before .clip) .ensures) ((c .before .before .before .before .before .before .before .before .before .before .before .before .before .locate) .ensures) ((c .before .before .before .before .before .before .before .before .before .before .before .if2) .left) ((c .before .before .before .before .before .before .before .before .before .before .before .before .before .before .before .before .before .before .before .before .before .before .before .before .args) .c .reservations .size + ((c .before .before .before .before .before .before .before .before .less) .result + (1 + length ((c .before .before .before .before .before .before .before .before .before .clip2) .result .now)) + 24)) ((c .before .before .before .before .before .before .before .before .before .before .before .before .before .before .before .before .before .before .before .before .before .before .before .before .args) .c .reservations .count + 1) refl refl _ ((c .before .before .before .before .with-reservations) .ensures), tt)
+emit-requires c κs = (small-more (c .before .before .before .before .before .before .before .before .before .before .before .before .before .before .before .before .before .before .before .before .before .before .before .before .before .pre) ((c .before .before .before .before .before .before .before .before .before .before .clip2) .result .now) ((c .before .before .before .before .before .before .before .before .before .before .clip2) .ensures) (1 + length ((c .before .before .before .before .before .before .before .before .before .before .clip2) .result .now)) (35 + (1 + length ((c .before .before .before .before .before .before .before .before .before .before .clip2) .result .now))) ((c .before .before .before .before .before .before .before .before .before .less) .result) refl refl ((c .before .before .before .before .before .before .before .before .before .less) .ensures) ((c .before .before .before .before .before .before .before .before .before .before .before .before .before .before .before .before .before .clip) .result .now) ((c .before .before .before .before .before .before .before .before .before .before .before .before .before .before .locate) .result) ((c .before .before .before .before .before .before .before .before .before .before .before .before .before .before .before .before .before .clip) .ensures) ((c .before .before .before .before .before .before .before .before .before .before .before .before .before .before .locate) .ensures) ((c .before .before .before .before .before .before .before .before .before .before .before .before .if2) .left) ((c .before .before .before .before .before .before .before .before .before .before .before .before .before .before .before .before .before .before .before .before .before .before .before .before .before .args) .c .reservations .size + ((c .before .before .before .before .before .before .before .before .before .less) .result + (1 + length ((c .before .before .before .before .before .before .before .before .before .before .clip2) .result .now)) + 24)) ((c .before .before .before .before .before .before .before .before .before .before .before .before .before .before .before .before .before .before .before .before .before .before .before .before .before .args) .c .reservations .count + 1) refl refl _ ((c .before .before .before .before .before .with-reservations) .ensures), permit-fits (c .before .before .before .before .before .before .before .before .before .before .before .before .before .before .before .before .before .before .before .before .before .before .before .before .before .pre) ((c .before .before .before .before .before .before .before .before .before .before .clip2) .result .now) ((c .before .before .before .before .before .before .before .before .before .before .clip2) .ensures) (1 + length ((c .before .before .before .before .before .before .before .before .before .before .clip2) .result .now)) (35 + (1 + length ((c .before .before .before .before .before .before .before .before .before .before .clip2) .result .now))) ((c .before .before .before .before .before .before .before .before .before .less) .result) refl refl ((c .before .before .before .before .before .before .before .before .before .less) .ensures))
 
 same-length : tie.Need-same-length
 same-length c = search needs
@@ -79,11 +79,11 @@ same-length-2 : tie.Need-same-length-2
 same-length-2 c = search needs
 
 returns-3 : tie.Need-returns-3
-returns-3 c = done (c .before .before .before .before .before .before .before .before .before .before .before .before .before .before .before .before .before .before .before .before .before .before .before .before .before .before .before .before .before .pre) (reserved ((c .before .before .before .before .before .before .before .before .before .before .before .before .before .before .before .before .before .before .before .before .before .before .before .before .before .before .before .before .before .pre) .state) (permit-made (c .before .before .before .before .before .before .before .before .before .before .before .before .before .before .before .before .before .before .before .before .before .before .before .before .before .before .before .before .before .pre))) (DeleteReserved (permit-made (c .before .before .before .before .before .before .before .before .before .before .before .before .before .before .before .before .before .before .before .before .before .before .before .before .before .before .before .before .before .pre))) 0 ((c .before .before .before .before .before .before .before .before .before .with-reservations) .result) (0 ∷ (c .before .before .before .before .before .before .before .before .before .before .before .before .before .before .before .before .before .before .before .before .before .before .before .before .before .before .before .before .before .args) .c .intents .at ∷ (c .before .before .before .before .before .before .before .before .less2) .result ∷ 1 ∷ (35 + (1 + length ((c .before .before .before .before .before .before .before .before .before .before .before .before .before .before .clip2) .result .now))) ∷ (c .before .before .before .before .before .before .before .before .before .before .before .before .before .less) .result ∷ 1 ∷ 27 ∷ (1 + length ((c .before .before .before .before .before .before .before .before .before .before .before .before .before .before .clip2) .result .now)) ∷ 2 ∷ (c .before .before .before .before .before .before .before .before .before .before .before .before .before .before .before .before .before .before .before .before .before .before .before .before .before .before .before .before .before .args) .x .generation ∷ 8 ∷ 2 ∷ (c .before .before .before .before .before .before .before .before .before .before .before .before .before .before .before .before .before .before .before .before .before .before .before .before .before .before .before .before .before .args) .x .position .term ∷ 8 ∷ 2 ∷ (c .before .before .before .before .before .before .before .before .before .before .before .before .before .before .before .before .before .before .before .before .before .before .before .before .before .before .before .before .before .args) .x .position .index ∷ 8 ∷ 0 ∷ (c .before .before .before .before .before .before .before .before .before .before .before .before .before .before .before .before .before .before .locate) .result .end ∷ length ((c .before .before .before .before .before .before .before .before .before .before .before .before .before .before .before .before .before .before .before .before .before .before .before .before .before .before .before .before .before .args) .image .now) ∷ []) (PublicationOutcome.DeleteReserved (reservedAt (35 + (1 + length ((c .before .before .before .before .before .before .before .before .before .before .before .before .before .before .clip2) .result .now))) ((c .before .before .before .before .before .before .before .before .before .before .before .before .before .less) .result) (1 + length ((c .before .before .before .before .before .before .before .before .before .before .before .before .before .before .clip2) .result .now)) ((c .before .before .before .before .before .before .before .before .before .before .before .before .before .before .before .before .before .before .before .before .before .before .before .before .before .before .before .before .before .args) .x)))
-    (taken (c .before .before .before .before .before .before .before .before .before .before .before .before .before .before .before .before .before .before .before .before .before .before .before .before .before .before .before .before .before .pre) ((c .before .before .before .before .before .before .before .before .before .before .before .before .before .before .before .before .before .before .before .before .before .clip) .result .now) ((c .before .before .before .before .before .before .before .before .before .before .before .before .before .before .before .before .before .before .locate) .result) ((c .before .before .before .before .before .before .before .before .before .before .before .before .before .before .before .before .before .before .before .before .before .clip) .ensures) ((c .before .before .before .before .before .before .before .before .before .before .before .before .before .before .before .before .before .before .locate) .ensures) ((c .before .before .before .before .before .before .before .before .before .before .before .before .before .before .before .before .before .before .before .before .before .before .before .before .reserve-refusal) .result) ((c .before .before .before .before .before .before .before .before .before .before .before .before .before .before .before .before .before .before .before .before .before .before .before .before .reserve-refusal) .ensures) ((c .before .before .before .before .before .before .before .before .before .before .before .before .before .before .before .before .before .before .before .before .before .before .before .if1) .left) ((c .before .before .before .before .before .before .before .before .before .before .before .before .before .before .before .before .if2) .left))
-    (shows-more (c .before .before .before .before .before .before .before .before .before .before .before .before .before .before .before .before .before .before .before .before .before .before .before .before .before .before .before .before .before .pre) ((c .before .before .before .before .before .before .before .before .before .before .before .before .before .before .clip2) .result .now) ((c .before .before .before .before .before .before .before .before .before .before .before .before .before .before .clip2) .ensures) (1 + length ((c .before .before .before .before .before .before .before .before .before .before .before .before .before .before .clip2) .result .now)) (35 + (1 + length ((c .before .before .before .before .before .before .before .before .before .before .before .before .before .before .clip2) .result .now))) ((c .before .before .before .before .before .before .before .before .before .before .before .before .before .less) .result) refl refl ((c .before .before .before .before .before .before .before .before .before .before .before .before .before .less) .ensures) ((c .before .before .before .before .before .before .before .before .before .before .before .before .before .before .before .before .before .before .before .before .before .clip) .result .now) ((c .before .before .before .before .before .before .before .before .before .before .before .before .before .before .before .before .before .before .locate) .result) ((c .before .before .before .before .before .before .before .before .before .before .before .before .before .before .before .before .before .before .before .before .before .clip) .ensures) ((c .before .before .before .before .before .before .before .before .before .before .before .before .before .before .before .before .before .before .locate) .ensures) ((c .before .before .before .before .before .before .before .before .before .before .before .before .before .before .before .before .if2) .left) ((c .before .before .before .before .before .before .before .before .before .before .before .before .before .before .before .before .before .before .before .before .before .before .before .before .before .before .before .before .before .args) .c .reservations .size + ((c .before .before .before .before .before .before .before .before .before .before .before .before .before .less) .result + (1 + length ((c .before .before .before .before .before .before .before .before .before .before .before .before .before .before .clip2) .result .now)) + 24)) ((c .before .before .before .before .before .before .before .before .before .before .before .before .before .before .before .before .before .before .before .before .before .before .before .before .before .before .before .before .before .args) .c .reservations .count + 1) refl refl _ ((c .before .before .before .before .before .before .before .before .before .with-reservations) .ensures))
-    (body-more (c .before .before .before .before .before .before .before .before .before .before .before .before .before .before .before .before .before .before .before .before .before .before .before .before .before .before .before .before .before .pre) ((c .before .before .before .before .before .before .before .before .before .before .before .before .before .before .clip2) .result .now) ((c .before .before .before .before .before .before .before .before .before .before .before .before .before .before .clip2) .ensures) (1 + length ((c .before .before .before .before .before .before .before .before .before .before .before .before .before .before .clip2) .result .now)) (35 + (1 + length ((c .before .before .before .before .before .before .before .before .before .before .before .before .before .before .clip2) .result .now))) ((c .before .before .before .before .before .before .before .before .before .before .before .before .before .less) .result) refl refl ((c .before .before .before .before .before .before .before .before .before .before .before .before .before .less) .ensures) ((c .before .before .before .before .before .before .before .before .before .before .before .before .before .before .before .before .before .before .before .before .before .clip) .result .now) ((c .before .before .before .before .before .before .before .before .before .before .before .before .before .before .before .before .before .before .locate) .result) ((c .before .before .before .before .before .before .before .before .before .before .before .before .before .before .before .before .before .before .before .before .before .clip) .ensures) ((c .before .before .before .before .before .before .before .before .before .before .before .before .before .before .before .before .before .before .locate) .ensures) ((c .before .before .before .before .before .before .before .before .before .before .before .before .before .before .before .before .if2) .left) _ ((c .before .before .before .before .before .before .before .before .less2) .ensures))
-    (told-made (c .before .before .before .before .before .before .before .before .before .before .before .before .before .before .before .before .before .before .before .before .before .before .before .before .before .before .before .before .before .pre) ((c .before .before .before .before .before .before .before .before .before .before .before .before .before .before .clip2) .result .now) ((c .before .before .before .before .before .before .before .before .before .before .before .before .before .before .clip2) .ensures) (1 + length ((c .before .before .before .before .before .before .before .before .before .before .before .before .before .before .clip2) .result .now)) (35 + (1 + length ((c .before .before .before .before .before .before .before .before .before .before .before .before .before .before .clip2) .result .now))) ((c .before .before .before .before .before .before .before .before .before .before .before .before .before .less) .result) refl refl ((c .before .before .before .before .before .before .before .before .before .before .before .before .before .less) .ensures))
+returns-3 c = done (c .before .before .before .before .before .before .before .before .before .before .before .before .before .before .before .before .before .before .before .before .before .before .before .before .before .before .before .before .before .before .pre) (reserved ((c .before .before .before .before .before .before .before .before .before .before .before .before .before .before .before .before .before .before .before .before .before .before .before .before .before .before .before .before .before .before .pre) .state) (permit-made (c .before .before .before .before .before .before .before .before .before .before .before .before .before .before .before .before .before .before .before .before .before .before .before .before .before .before .before .before .before .before .pre))) (DeleteReserved (permit-made (c .before .before .before .before .before .before .before .before .before .before .before .before .before .before .before .before .before .before .before .before .before .before .before .before .before .before .before .before .before .before .pre))) 0 ((c .before .before .before .before .before .before .before .before .before .before .with-reservations) .result) (0 ∷ (c .before .before .before .before .before .before .before .before .before .before .before .before .before .before .before .before .before .before .before .before .before .before .before .before .before .before .before .before .before .before .args) .c .intents .at ∷ (c .before .before .before .before .before .before .before .before .before .less2) .result ∷ 1 ∷ (35 + (1 + length ((c .before .before .before .before .before .before .before .before .before .before .before .before .before .before .before .clip2) .result .now))) ∷ (c .before .before .before .before .before .before .before .before .before .before .before .before .before .before .less) .result ∷ 1 ∷ 27 ∷ (1 + length ((c .before .before .before .before .before .before .before .before .before .before .before .before .before .before .before .clip2) .result .now)) ∷ 2 ∷ (c .before .before .before .before .before .before .before .before .before .before .before .before .before .before .before .before .before .before .before .before .before .before .before .before .before .before .before .before .before .before .args) .x .generation ∷ 8 ∷ 2 ∷ (c .before .before .before .before .before .before .before .before .before .before .before .before .before .before .before .before .before .before .before .before .before .before .before .before .before .before .before .before .before .before .args) .x .position .term ∷ 8 ∷ 2 ∷ (c .before .before .before .before .before .before .before .before .before .before .before .before .before .before .before .before .before .before .before .before .before .before .before .before .before .before .before .before .before .before .args) .x .position .index ∷ 8 ∷ 0 ∷ (c .before .before .before .before .before .before .before .before .before .before .before .before .before .before .before .before .before .before .before .locate) .result .end ∷ length ((c .before .before .before .before .before .before .before .before .before .before .before .before .before .before .before .before .before .before .before .before .before .before .before .before .before .before .before .before .before .before .args) .image .now) ∷ []) ((c .before .before .before .before .before .before .before .before .before .before .before .before .before .before .before .before .before .before .before .before .before .before .before .before .before .before .before .before .before .before .args) .image .now) (PublicationOutcome.DeleteReserved (permit-told (c .before .before .before .before .before .before .before .before .before .before .before .before .before .before .before .before .before .before .before .before .before .before .before .before .before .before .before .before .before .before .pre)))
+    (taken (c .before .before .before .before .before .before .before .before .before .before .before .before .before .before .before .before .before .before .before .before .before .before .before .before .before .before .before .before .before .before .pre) ((c .before .before .before .before .before .before .before .before .before .before .before .before .before .before .before .before .before .before .before .before .before .before .clip) .result .now) ((c .before .before .before .before .before .before .before .before .before .before .before .before .before .before .before .before .before .before .before .locate) .result) ((c .before .before .before .before .before .before .before .before .before .before .before .before .before .before .before .before .before .before .before .before .before .before .clip) .ensures) ((c .before .before .before .before .before .before .before .before .before .before .before .before .before .before .before .before .before .before .before .locate) .ensures) ((c .before .before .before .before .before .before .before .before .before .before .before .before .before .before .before .before .before .before .before .before .before .before .before .before .before .reserve-refusal) .result) ((c .before .before .before .before .before .before .before .before .before .before .before .before .before .before .before .before .before .before .before .before .before .before .before .before .before .reserve-refusal) .ensures) ((c .before .before .before .before .before .before .before .before .before .before .before .before .before .before .before .before .before .before .before .before .before .before .before .before .if1) .left) ((c .before .before .before .before .before .before .before .before .before .before .before .before .before .before .before .before .before .if2) .left))
+    (shows-more (c .before .before .before .before .before .before .before .before .before .before .before .before .before .before .before .before .before .before .before .before .before .before .before .before .before .before .before .before .before .before .pre) ((c .before .before .before .before .before .before .before .before .before .before .before .before .before .before .before .clip2) .result .now) ((c .before .before .before .before .before .before .before .before .before .before .before .before .before .before .before .clip2) .ensures) (1 + length ((c .before .before .before .before .before .before .before .before .before .before .before .before .before .before .before .clip2) .result .now)) (35 + (1 + length ((c .before .before .before .before .before .before .before .before .before .before .before .before .before .before .before .clip2) .result .now))) ((c .before .before .before .before .before .before .before .before .before .before .before .before .before .before .less) .result) refl refl ((c .before .before .before .before .before .before .before .before .before .before .before .before .before .before .less) .ensures) ((c .before .before .before .before .before .before .before .before .before .before .before .before .before .before .before .before .before .before .before .before .before .before .clip) .result .now) ((c .before .before .before .before .before .before .before .before .before .before .before .before .before .before .before .before .before .before .before .locate) .result) ((c .before .before .before .before .before .before .before .before .before .before .before .before .before .before .before .before .before .before .before .before .before .before .clip) .ensures) ((c .before .before .before .before .before .before .before .before .before .before .before .before .before .before .before .before .before .before .before .locate) .ensures) ((c .before .before .before .before .before .before .before .before .before .before .before .before .before .before .before .before .before .if2) .left) ((c .before .before .before .before .before .before .before .before .before .before .before .before .before .before .before .before .before .before .before .before .before .before .before .before .before .before .before .before .before .before .args) .c .reservations .size + ((c .before .before .before .before .before .before .before .before .before .before .before .before .before .before .less) .result + (1 + length ((c .before .before .before .before .before .before .before .before .before .before .before .before .before .before .before .clip2) .result .now)) + 24)) ((c .before .before .before .before .before .before .before .before .before .before .before .before .before .before .before .before .before .before .before .before .before .before .before .before .before .before .before .before .before .before .args) .c .reservations .count + 1) refl refl _ ((c .before .before .before .before .before .before .before .before .before .before .with-reservations) .ensures))
+    (body-more (c .before .before .before .before .before .before .before .before .before .before .before .before .before .before .before .before .before .before .before .before .before .before .before .before .before .before .before .before .before .before .pre) ((c .before .before .before .before .before .before .before .before .before .before .before .before .before .before .before .clip2) .result .now) ((c .before .before .before .before .before .before .before .before .before .before .before .before .before .before .before .clip2) .ensures) (1 + length ((c .before .before .before .before .before .before .before .before .before .before .before .before .before .before .before .clip2) .result .now)) (35 + (1 + length ((c .before .before .before .before .before .before .before .before .before .before .before .before .before .before .before .clip2) .result .now))) ((c .before .before .before .before .before .before .before .before .before .before .before .before .before .before .less) .result) refl refl ((c .before .before .before .before .before .before .before .before .before .before .before .before .before .before .less) .ensures) ((c .before .before .before .before .before .before .before .before .before .before .before .before .before .before .before .before .before .before .before .before .before .before .clip) .result .now) ((c .before .before .before .before .before .before .before .before .before .before .before .before .before .before .before .before .before .before .before .locate) .result) ((c .before .before .before .before .before .before .before .before .before .before .before .before .before .before .before .before .before .before .before .before .before .before .clip) .ensures) ((c .before .before .before .before .before .before .before .before .before .before .before .before .before .before .before .before .before .before .before .locate) .ensures) ((c .before .before .before .before .before .before .before .before .before .before .before .before .before .before .before .before .before .if2) .left) _ ((c .before .before .before .before .before .before .before .before .before .less2) .ensures))
+    refl
     ((c .before .before .before .before .emit) .ensures)
 
 pub reserve-delete-spec : {M : Type 1} → statement M

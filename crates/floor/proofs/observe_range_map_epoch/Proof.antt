@@ -9,7 +9,6 @@ use Rattle.requests.specs.Meaning.{contextOf, faultsOf, positionOf}
 use Rattle.next.specs.Shows.{Shows}
 use Rattle.next.specs.Call.{refused, done}
 use Rattle.next.specs.Kept.{small-with, whole-tables}
-use Rattle.next.specs.Outcome.{applied-told}
 use Rattle.machine.specs.Next.{range-map-observed}
 use Rattle.floor.specs.Frontier.{range-zero, range-back, range-taken, range-shows}
 use Rattle.next.specs.declared.PublicationOutcome.{PublicationOutcome}
@@ -45,12 +44,12 @@ same-length-2 : tie.Need-same-length-2
 same-length-2 c = search needs
 
 returns-3 : tie.Need-returns-3
-returns-3 c = done (c .before .before .before .before .before .before .before .before .before .before .before .before .before .before .before .before .before .pre) (range-map-observed ((c .before .before .before .before .before .before .before .before .before .before .before .before .before .before .before .before .before .pre) .state) ((c .before .before .before .before .before .before .before .before .before .before .before .before .before .before .before .before .before .args) .range-map-epoch)) Applied 0 ((c .before .before .before .before .before .before .before .before .with-scalars) .result) (0 ∷ (c .before .before .before .before .before .before .before .before .before .before .before .before .before .before .before .before .before .args) .c .intents .at ∷ length ((c .before .before .before .before .before .before .before .before .before .before .before .before .before .before .before .before .before .args) .image .now) ∷ []) PublicationOutcome.Applied
+returns-3 c = done (c .before .before .before .before .before .before .before .before .before .before .before .before .before .before .before .before .before .pre) (range-map-observed ((c .before .before .before .before .before .before .before .before .before .before .before .before .before .before .before .before .before .pre) .state) ((c .before .before .before .before .before .before .before .before .before .before .before .before .before .before .before .before .before .args) .range-map-epoch)) Applied 0 ((c .before .before .before .before .before .before .before .before .with-scalars) .result) (0 ∷ (c .before .before .before .before .before .before .before .before .before .before .before .before .before .before .before .before .before .args) .c .intents .at ∷ length ((c .before .before .before .before .before .before .before .before .before .before .before .before .before .before .before .before .before .args) .image .now) ∷ []) ((c .before .before .before .before .before .before .before .before .before .before .before .before .before .before .before .before .before .args) .image .now) PublicationOutcome.Applied
     (range-taken ((c .before .before .before .before .before .before .before .before .before .before .before .before .before .before .before .before .before .pre) .state) (contextOf ((c .before .before .before .before .before .before .before .before .before .before .before .before .before .before .before .before .before .args) .x)) (faultsOf ((c .before .before .before .before .before .before .before .before .before .before .before .before .before .before .before .before .before .args) .f)) ((c .before .before .before .before .before .before .before .before .before .before .before .before .before .before .before .before .before .args) .range-map-epoch) ((c .before .before .before .before .before .before .before .before .before .before .before .if1) .left) (omega (arith, (c .before .before .before .before .before .before .before .before .before .if2) .left, ap (λ (k : Contents). k .scalars .«range_map_epoch») ((c .before .before .before .before .before .before .before .before .before .before .before .before .before .before .before .before .before .pre) .opened))))
     (subst (λ (k : Contents). Shows ((c .before .before .before .before .before .before .before .before .before .before .before .before .before .before .before .before .before .args) .image .now) ((c .before .before .before .before .before .before .before .before .before .before .before .before .before .before .before .before .before .args) .request .now) 0 k (set-revision (positionOf ((c .before .before .before .before .before .before .before .before .before .before .before .before .before .before .before .before .before .args) .x .position)) (range-map-observed ((c .before .before .before .before .before .before .before .before .before .before .before .before .before .before .before .before .before .pre) .state) ((c .before .before .before .before .before .before .before .before .before .before .before .before .before .before .before .before .before .args) .range-map-epoch)))) (sym ((c .before .before .before .before .before .before .before .before .with-scalars) .ensures))
     (range-shows ((c .before .before .before .before .before .before .before .before .before .before .before .before .before .before .before .before .before .pre) .state) ((c .before .before .before .before .before .before .before .before .before .before .before .before .before .before .before .before .before .args) .image .now) ((c .before .before .before .before .before .before .before .before .before .before .before .before .before .before .before .before .before .args) .request .now) ((c .before .before .before .before .before .before .before .before .before .before .before .before .before .before .before .before .before .pre) .image-is) ((c .before .before .before .before .before .before .before .before .before .before .before .before .before .before .before .before .before .pre) .formed) ((c .before .before .before .before .before .before .before .before .before .before .before .before .before .before .before .before .before .args) .x .position .term) ((c .before .before .before .before .before .before .before .before .before .before .before .before .before .before .before .before .before .args) .x .position .index) ((c .before .before .before .before .before .before .before .before .before .before .before .before .before .before .before .before .before .args) .range-map-epoch) ((c .before .before .before .before .before .before .before .before .before .before .before .before .before .before .before .before .before .args) .c) ((c .before .before .before .before .before .before .before .before .before .before .before .before .before .before .before .before .before .pre) .opened)))
     (whole-tables ((c .before .before .before .before .before .before .before .before .before .before .before .before .before .before .before .before .before .pre) .state) ((c .before .before .before .before .before .before .before .before .before .before .before .before .before .before .before .before .before .args) .image .now) ((c .before .before .before .before .before .before .before .before .before .before .before .before .before .before .before .before .before .args) .request .now) ((c .before .before .before .before .before .before .before .before .before .before .before .before .before .before .before .before .before .pre) .image-is) ((c .before .before .before .before .before .before .before .before .before .before .before .before .before .before .before .before .before .args) .c) ((c .before .before .before .before .before .before .before .before .before .before .before .before .before .before .before .before .before .pre) .opened))
-    (applied-told ((c .before .before .before .before .before .before .before .before .before .before .before .before .before .before .before .before .before .args) .image .now) ((c .before .before .before .before .before .before .before .before .before .before .before .before .before .before .before .before .before .args) .request .now))
+    refl
     ((c .before .before .before .before .emit) .ensures)
 
 pub observe-range-map-epoch-spec : {M : Type 1} → statement M

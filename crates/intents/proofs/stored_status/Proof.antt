@@ -1,10 +1,7 @@
-use Rattle.intents.proofs.Steps.{row-of-intent, status-at}
+use Rattle.intents.proofs.Steps.{after-first, status-at}
 use borrow.Author.Needs.{needs}
 use Rattle.intents.proofs.stored_status.Statement.{statement}
 use Rattle.intents.proofs.stored_status.Tie as tie
-
-less-requires : tie.Need-less-requires
-less-requires c κs = search needs
 
 clip-requires : tie.Need-clip-requires
 clip-requires c κs = search needs
@@ -15,23 +12,13 @@ clip-requires-2 c κs = search needs
 clip-requires-3 : tie.Need-clip-requires-3
 clip-requires-3 c κs = search needs
 
-clip-requires-4 : tie.Need-clip-requires-4
-clip-requires-4 c κs = search needs
-
 intent-status-requires : tie.Need-intent-status-requires
 intent-status-requires c κs = search needs
 
 returns : tie.Need-returns
-returns c = status-at _ _ _ _ ((c .before .before .before .before .before .before .before .before .before .before .args) .root .now) ((c .before .before .before .before .before .before .before .before .before .before .args) .prior .now) _ _ ((c .before .before .before .before .before .before .before .before .before .before .args) .generation) _ _ _ ((c .intent-status) .ensures) (row-of-intent ((c .before .before .before .before .before .before .before .before .before .before .args) .image .now) ((c .before .before .before .before .before .before .before .before .before .before .args) .p) ((c .before .before .before .before .before .before .before .before .before .before .args) .first) _ _ _ ((c .before .before .before .before .before .less) .ensures) ((c .before .before .before .before .clip) .ensures) ((c .before .before .before .clip2) .ensures)) ((c .before .before .clip3) .ensures) ((c .before .clip4) .ensures)
+returns c = status-at _ _ _ _ ((c .before .before .before .before .before .before .before .before .args) .root .now) ((c .before .before .before .before .before .before .before .before .args) .prior .now) _ _ ((c .before .before .before .before .before .before .before .before .args) .generation) _ _ _ ((c .intent-status) .ensures) (after-first ((c .before .before .before .before .before .before .before .before .args) .first) ((c .before .before .before .before .before .before .before .before .args) .row .now) _ ((c .before .before .before .clip) .ensures)) ((c .before .before .clip2) .ensures) ((c .before .clip3) .ensures)
 
 pub stored-status-spec : {M : Type 1} → statement M
 stored-status-spec =
     tie.close
-    (tie.spec
-    less-requires
-    clip-requires
-    clip-requires-2
-    clip-requires-3
-    clip-requires-4
-    intent-status-requires
-    returns)
+    (tie.spec clip-requires clip-requires-2 clip-requires-3 intent-status-requires returns)

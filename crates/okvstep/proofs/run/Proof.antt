@@ -1,21 +1,31 @@
-use Prim.Native.Nat.{_≤_, _-_}
-use mathlib.Core.Path.{_≡_, refl}
+use Prim.Native.Nat.{_<_, _≤_, _-_, _^_}
 use native.Mathlib.Omega.{arith}
-use lib.ListN.{length}
+use mathlib.Core.Path.{_≡_, refl}
+use lib.ListN.{length, take}
+use Rattle.okvstep.specs.Moments.{room, outcome-room, Moment}
+use Rattle.okvstep.proofs.Steps.{first-within, first-moment}
 use borrow.Author.Needs.{needs}
 use Rattle.okvstep.proofs.run.Statement.{statement}
 use Rattle.okvstep.proofs.run.Tie as tie
 
 abbrev Inv-loop : tie.InvT-loop
-Inv-loop first image₀ next₀ outcome₀ frame₀ size₀ count₀ t10 t11 image next outcome frame size count =
-    (count ≤ 18446744073709551615) × (length image ≡ length image₀) × (length next ≡ length next₀) × (length outcome ≡ length outcome₀) × (length frame ≡ length frame₀)
+Inv-loop image₀ next₀ outcome₀ frame₀ size₀ frames₀ t12 t13 image next outcome frame size frames =
+    (frames < 2 ^ 64 - 1) × (size ≤ room) × (length image ≡ room) × (length next ≡ room) × (length outcome ≡ outcome-room) × (length frame ≡ length frame₀) × Moment frames (take size image)
 
 abbrev μ-loop : tie.MeasureT-loop
-μ-loop first image₀ next₀ outcome₀ frame₀ size₀ count₀ t10 t11 image next outcome frame size count =
-    18446744073709551615 - count
+μ-loop image₀ next₀ outcome₀ frame₀ size₀ frames₀ t12 t13 image next outcome frame size frames =
+    2 ^ 64 - frames
+
+default-image-requires : tie.Need-default-image-requires Inv-loop μ-loop
+default-image-requires c κs = search needs
 
 loop-holds : tie.Need-loop-holds Inv-loop μ-loop
-loop-holds c = (omega arith, refl, refl, refl, refl)
+loop-holds c =
+    let d = (c .before .before .before .before .before .before .before .before .args) .image .now in
+    let w = (c .before .before .default-image) in
+    let h = (c .before .before .before .before .before .before .before .before .pre) .0 in
+    let e = w .ensures in
+    (omega arith, first-within d _ (w .result) h (e .0) (e .1), search needs, (c .before .before .before .before .before .before .before .before .pre) .1, (c .before .before .before .before .before .before .before .before .pre) .2, refl, first-moment d _ (w .result) h (e .0) (e .1))
 
 read-frame-requires : tie.Need-read-frame-requires Inv-loop μ-loop
 read-frame-requires c κs = search needs
@@ -77,14 +87,19 @@ clip-requires c κs = search needs
 step-requires : tie.Need-step-requires Inv-loop μ-loop
 step-requires c κs = search needs
 
-add-count : tie.Need-add-count Inv-loop μ-loop
-add-count c = search needs
+write-line-requires : tie.Need-write-line-requires Inv-loop μ-loop
+write-line-requires c κs = search needs
+
+add-frames : tie.Need-add-frames Inv-loop μ-loop
+add-frames c = search needs
 
 loop-less : tie.Need-loop-less Inv-loop μ-loop
 loop-less c = search needs
 
 loop-again : tie.Need-loop-again Inv-loop μ-loop
-loop-again c = search needs
+loop-again c =
+    let m = (c .before .before .before .before .before .before .before .before .step) .ensures .1 .1 in
+    (omega arith, m .1, search needs, search needs, search needs, search needs, m .0)
 
 same-length-9 : tie.Need-same-length-9 Inv-loop μ-loop
 same-length-9 c = search needs
@@ -107,6 +122,7 @@ run-spec =
     (tie.spec
     Inv-loop
     μ-loop
+    default-image-requires
     loop-holds
     read-frame-requires
     enum-told
@@ -128,7 +144,8 @@ run-spec =
     enum-known-f
     clip-requires
     step-requires
-    add-count
+    write-line-requires
+    add-frames
     loop-less
     loop-again
     same-length-9

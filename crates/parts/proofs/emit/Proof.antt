@@ -16,11 +16,11 @@ refuse-requires c κs = search needs
 
 returns : tie.Need-returns
 returns c =
-    let a = c .before .before .before .before .before .before .before .before .before .args in
+    let a = (c .before .before .before .before .before .before .before .before .before .before .args) in
     let H : List ℕ = gatherOf (a .a .now) (a .b .now) (a .head .now) in
     let B : List ℕ = gatherOf (a .a .now) (a .b .now) (a .body .now) in
-    let O : List ℕ = gatherOf (a .a .now) (a .b .now) (a .told .now) in
-    emit-44 H B O (a .next .now) (a .outcome .now) (a .over-limit) (c .before .if1 .taken) (c .refuse .ensures)
+    let O : List ℕ = gatherOf (a .c .now) (a .b .now) (a .told .now) in
+    emit-44 H B O (a .next .now) (a .outcome .now) (a .over-limit) ((c .before .if1) .taken) ((c .refuse) .ensures)
 
 measure-requires : tie.Need-measure-requires
 measure-requires c κs = search needs
@@ -36,17 +36,17 @@ refuse-requires-2 c κs = search needs
 
 returns-2 : tie.Need-returns-2
 returns-2 c =
-    let a = c .before .before .before .before .before .before .before .before .before .before .before .before .args in
+    let a = (c .before .before .before .before .before .before .before .before .before .before .before .before .before .args) in
     let H : List ℕ = gatherOf (a .a .now) (a .b .now) (a .head .now) in
     let B : List ℕ = gatherOf (a .a .now) (a .b .now) (a .body .now) in
-    let O : List ℕ = gatherOf (a .a .now) (a .b .now) (a .told .now) in
-    emit-45-head H B O (a .next .now) (a .outcome .now) (a .over-limit) (c .before .before .before .before .if1 .left) (sym (c .before .enum-told .given .1) ∙ c .before .before .before .measure .ensures) (c .refuse2 .ensures)
+    let O : List ℕ = gatherOf (a .c .now) (a .b .now) (a .told .now) in
+    emit-45-head H B O (a .next .now) (a .outcome .now) (a .over-limit) ((c .before .before .before .before .if1) .left) (sym ((c .before .enum-told) .given .1) ∙ (c .before .before .before .measure) .ensures) ((c .refuse2) .ensures)
 
 sub-measure : tie.Need-sub-measure
 sub-measure c =
-    let a = c .before .before .before .before .before .before .before .before .before .before .before .before .args in
+    let a = (c .before .before .before .before .before .before .before .before .before .before .before .before .before .args) in
     let H : List ℕ = gatherOf (a .a .now) (a .b .now) (a .head .now) in
-    let x = size-of longest (length H) _ (sym (c .before .h .given .1) ∙ c .before .before .before .measure .ensures) in
+    let x = size-of longest (length H) _ (sym ((c .before .h) .given .1) ∙ (c .before .before .before .measure) .ensures) in
     omega arith
 
 measure-requires-2 : tie.Need-measure-requires-2
@@ -63,19 +63,19 @@ refuse-requires-3 c κs = search needs
 
 returns-3 : tie.Need-returns-3
 returns-3 c =
-    let a = c .before .before .before .before .before .before .before .before .before .before .before .before .before .before .before .before .args in
+    let a = (c .before .before .before .before .before .before .before .before .before .before .before .before .before .before .before .before .before .args) in
     let H : List ℕ = gatherOf (a .a .now) (a .b .now) (a .head .now) in
     let B : List ℕ = gatherOf (a .a .now) (a .b .now) (a .body .now) in
-    let O : List ℕ = gatherOf (a .a .now) (a .b .now) (a .told .now) in
-    emit-45-body H B O (a .next .now) (a .outcome .now) (a .over-limit) (c .before .before .before .before .before .before .before .before .if1 .left) (sym (c .before .before .before .before .before .h .given .1) ∙ c .before .before .before .before .before .before .before .measure .ensures) (sym (c .before .enum-told2 .given .1) ∙ c .before .before .before .measure2 .ensures) (c .refuse3 .ensures)
+    let O : List ℕ = gatherOf (a .c .now) (a .b .now) (a .told .now) in
+    emit-45-body H B O (a .next .now) (a .outcome .now) (a .over-limit) ((c .before .before .before .before .before .before .before .before .if1) .left) (sym ((c .before .before .before .before .before .h) .given .1) ∙ (c .before .before .before .before .before .before .before .measure) .ensures) (sym ((c .before .enum-told2) .given .1) ∙ (c .before .before .before .measure2) .ensures) ((c .refuse3) .ensures)
 
 add-if2 : tie.Need-add-if2
 add-if2 c =
-    let a = c .before .before .before .before .before .before .before .before .before .before .before .before .before .before .before .before .args in
+    let a = (c .before .before .before .before .before .before .before .before .before .before .before .before .before .before .before .before .before .args) in
     let H : List ℕ = gatherOf (a .a .now) (a .b .now) (a .head .now) in
     let B : List ℕ = gatherOf (a .a .now) (a .b .now) (a .body .now) in
-    let x = size-of longest (length H) _ (sym (c .before .before .before .before .before .h .given .1) ∙ c .before .before .before .before .before .before .before .measure .ensures) in
-    let y = size-of _ (length B) _ (sym (c .before .m .given .1) ∙ c .before .before .before .measure2 .ensures) in
+    let x = size-of longest (length H) _ (sym ((c .before .before .before .before .before .h) .given .1) ∙ (c .before .before .before .before .before .before .before .measure) .ensures) in
+    let y = size-of _ (length B) _ (sym ((c .before .m) .given .1) ∙ (c .before .before .before .measure2) .ensures) in
     omega arith
 
 refuse-requires-4 : tie.Need-refuse-requires-4
@@ -83,11 +83,11 @@ refuse-requires-4 c κs = search needs
 
 returns-4 : tie.Need-returns-4
 returns-4 c =
-    let a = c .before .before .before .before .before .before .before .before .before .before .before .before .before .before .before .before .before .before .args in
+    let a = (c .before .before .before .before .before .before .before .before .before .before .before .before .before .before .before .before .before .before .before .args) in
     let H : List ℕ = gatherOf (a .a .now) (a .b .now) (a .head .now) in
     let B : List ℕ = gatherOf (a .a .now) (a .b .now) (a .body .now) in
-    let O : List ℕ = gatherOf (a .a .now) (a .b .now) (a .told .now) in
-    emit-45-room H B O (a .next .now) (a .outcome .now) (a .over-limit) (c .before .before .before .before .before .before .before .before .before .before .if1 .left) (sym (c .before .before .before .before .before .before .before .h .given .1) ∙ c .before .before .before .before .before .before .before .before .before .measure .ensures) (sym (c .before .before .before .m .given .1) ∙ c .before .before .before .before .before .measure2 .ensures) (c .before .if2 .taken) (c .refuse4 .ensures)
+    let O : List ℕ = gatherOf (a .c .now) (a .b .now) (a .told .now) in
+    emit-45-room H B O (a .next .now) (a .outcome .now) (a .over-limit) ((c .before .before .before .before .before .before .before .before .before .before .if1) .left) (sym ((c .before .before .before .before .before .before .before .h) .given .1) ∙ (c .before .before .before .before .before .before .before .before .before .measure) .ensures) (sym ((c .before .before .before .m) .given .1) ∙ (c .before .before .before .before .before .measure2) .ensures) ((c .before .if2) .taken) ((c .refuse4) .ensures)
 
 measure-requires-3 : tie.Need-measure-requires-3
 measure-requires-3 c κs = search needs
@@ -103,46 +103,46 @@ refuse-requires-5 c κs = search needs
 
 returns-5 : tie.Need-returns-5
 returns-5 c =
-    let a = c .before .before .before .before .before .before .before .before .before .before .before .before .before .before .before .before .before .before .before .before .before .args in
+    let a = (c .before .before .before .before .before .before .before .before .before .before .before .before .before .before .before .before .before .before .before .before .before .before .args) in
     let H : List ℕ = gatherOf (a .a .now) (a .b .now) (a .head .now) in
     let B : List ℕ = gatherOf (a .a .now) (a .b .now) (a .body .now) in
-    let O : List ℕ = gatherOf (a .a .now) (a .b .now) (a .told .now) in
-    emit-46 H B O (a .next .now) (a .outcome .now) (a .over-limit) (c .before .before .before .before .before .before .before .before .before .before .before .before .before .if1 .left) (sym (c .before .before .before .before .before .before .before .before .before .before .h .given .1) ∙ c .before .before .before .before .before .before .before .before .before .before .before .before .measure .ensures) (sym (c .before .before .before .before .before .before .m .given .1) ∙ c .before .before .before .before .before .before .before .before .measure2 .ensures) (c .before .before .before .before .if2 .left) (sym (c .before .enum-told3 .given .1) ∙ c .before .before .before .measure3 .ensures) (c .refuse5 .ensures)
+    let O : List ℕ = gatherOf (a .c .now) (a .b .now) (a .told .now) in
+    emit-46 H B O (a .next .now) (a .outcome .now) (a .over-limit) ((c .before .before .before .before .before .before .before .before .before .before .before .before .before .if1) .left) (sym ((c .before .before .before .before .before .before .before .before .before .before .h) .given .1) ∙ (c .before .before .before .before .before .before .before .before .before .before .before .before .measure) .ensures) (sym ((c .before .before .before .before .before .before .m) .given .1) ∙ (c .before .before .before .before .before .before .before .before .measure2) .ensures) ((c .before .before .before .before .if2) .left) (sym ((c .before .enum-told3) .given .1) ∙ (c .before .before .before .measure3) .ensures) ((c .refuse5) .ensures)
 
 gather-requires : tie.Need-gather-requires
 gather-requires c κs =
-    let a = c .before .before .before .before .before .before .before .before .before .before .before .before .before .before .before .before .before .before .before .before .before .before .args in
+    let a = (c .before .before .before .before .before .before .before .before .before .before .before .before .before .before .before .before .before .before .before .before .before .before .before .args) in
     let H : List ℕ = gatherOf (a .a .now) (a .b .now) (a .head .now) in
     let B : List ℕ = gatherOf (a .a .now) (a .b .now) (a .body .now) in
-    let x = size-of longest (length H) _ (sym (c .before .before .before .before .before .before .before .before .before .before .before .h .given .1) ∙ c .before .before .before .before .before .before .before .before .before .before .before .before .before .measure .ensures) in
-    let y = size-of _ (length B) _ (sym (c .before .before .before .before .before .before .before .m .given .1) ∙ c .before .before .before .before .before .before .before .before .before .measure2 .ensures) in
+    let x = size-of longest (length H) _ (sym ((c .before .before .before .before .before .before .before .before .before .before .before .h) .given .1) ∙ (c .before .before .before .before .before .before .before .before .before .before .before .before .before .measure) .ensures) in
+    let y = size-of _ (length B) _ (sym ((c .before .before .before .before .before .before .before .m) .given .1) ∙ (c .before .before .before .before .before .before .before .before .before .measure2) .ensures) in
     omega arith
 
 gather-requires-2 : tie.Need-gather-requires-2
 gather-requires-2 c κs =
-    let a = c .before .before .before .before .before .before .before .before .before .before .before .before .before .before .before .before .before .before .before .before .before .before .before .before .before .before .args in
+    let a = (c .before .before .before .before .before .before .before .before .before .before .before .before .before .before .before .before .before .before .before .before .before .before .before .before .before .before .before .args) in
     let H : List ℕ = gatherOf (a .a .now) (a .b .now) (a .head .now) in
     let B : List ℕ = gatherOf (a .a .now) (a .b .now) (a .body .now) in
-    let x = size-of longest (length H) _ (sym (c .before .before .before .before .before .before .before .before .before .before .before .before .before .before .before .h .given .1) ∙ c .before .before .before .before .before .before .before .before .before .before .before .before .before .before .before .before .before .measure .ensures) in
-    let y = size-of _ (length B) _ (sym (c .before .before .before .before .before .before .before .before .before .before .before .m .given .1) ∙ c .before .before .before .before .before .before .before .before .before .before .before .before .before .measure2 .ensures) in
-    let p = c .before .before .before .gather .ensures .place in
-    let k = c .before .before .before .gather .kept .0 in
+    let x = size-of longest (length H) _ (sym ((c .before .before .before .before .before .before .before .before .before .before .before .before .before .before .before .h) .given .1) ∙ (c .before .before .before .before .before .before .before .before .before .before .before .before .before .before .before .before .before .measure) .ensures) in
+    let y = size-of _ (length B) _ (sym ((c .before .before .before .before .before .before .before .before .before .before .before .m) .given .1) ∙ (c .before .before .before .before .before .before .before .before .before .before .before .before .before .measure2) .ensures) in
+    let p = (c .before .before .before .gather) .ensures .place in
+    let k = (c .before .before .before .gather) .kept .0 in
     omega arith
 
 gather-requires-3 : tie.Need-gather-requires-3
 gather-requires-3 c κs =
-    let a = c .before .before .before .before .before .before .before .before .before .before .before .before .before .before .before .before .before .before .before .before .before .before .before .before .before .before .before .before .before .before .args in
-    let O : List ℕ = gatherOf (a .a .now) (a .b .now) (a .told .now) in
-    let z = size-of (length (a .outcome .now)) (length O) _ (sym (c .before .before .before .before .before .before .before .before .before .before .o .given .1) ∙ c .before .before .before .before .before .before .before .before .before .before .before .before .measure3 .ensures) in
+    let a = (c .before .before .before .before .before .before .before .before .before .before .before .before .before .before .before .before .before .before .before .before .before .before .before .before .before .before .before .before .before .before .before .args) in
+    let O : List ℕ = gatherOf (a .c .now) (a .b .now) (a .told .now) in
+    let z = size-of (length (a .outcome .now)) (length O) _ (sym ((c .before .before .before .before .before .before .before .before .before .before .o) .given .1) ∙ (c .before .before .before .before .before .before .before .before .before .before .before .before .measure3) .ensures) in
     omega arith
 
-add-t18 : tie.Need-add-t18
-add-t18 c =
-    let a = c .before .before .before .before .before .before .before .before .before .before .before .before .before .before .before .before .before .before .before .before .before .before .before .before .before .before .before .before .before .before .before .before .before .args in
+add-t19 : tie.Need-add-t19
+add-t19 c =
+    let a = (c .before .before .before .before .before .before .before .before .before .before .before .before .before .before .before .before .before .before .before .before .before .before .before .before .before .before .before .before .before .before .before .before .before .before .args) in
     let H : List ℕ = gatherOf (a .a .now) (a .b .now) (a .head .now) in
     let B : List ℕ = gatherOf (a .a .now) (a .b .now) (a .body .now) in
-    let x = size-of longest (length H) _ (sym (c .before .before .before .before .before .before .before .before .before .before .before .before .before .before .before .before .before .before .before .before .before .before .h .given .1) ∙ c .before .before .before .before .before .before .before .before .before .before .before .before .before .before .before .before .before .before .before .before .before .before .before .before .measure .ensures) in
-    let y = size-of _ (length B) _ (sym (c .before .before .before .before .before .before .before .before .before .before .before .before .before .before .before .before .before .before .m .given .1) ∙ c .before .before .before .before .before .before .before .before .before .before .before .before .before .before .before .before .before .before .before .before .measure2 .ensures) in
+    let x = size-of longest (length H) _ (sym ((c .before .before .before .before .before .before .before .before .before .before .before .before .before .before .before .before .before .before .before .before .before .before .h) .given .1) ∙ (c .before .before .before .before .before .before .before .before .before .before .before .before .before .before .before .before .before .before .before .before .before .before .before .before .measure) .ensures) in
+    let y = size-of _ (length B) _ (sym ((c .before .before .before .before .before .before .before .before .before .before .before .before .before .before .before .before .before .before .m) .given .1) ∙ (c .before .before .before .before .before .before .before .before .before .before .before .before .before .before .before .before .before .before .before .before .measure2) .ensures) in
     omega arith
 
 same-length : tie.Need-same-length
@@ -153,11 +153,11 @@ same-length-2 c = search needs
 
 returns-6 : tie.Need-returns-6
 returns-6 c =
-    let a = c .before .before .before .before .before .before .before .before .before .before .before .before .before .before .before .before .before .before .before .before .before .before .before .before .before .before .before .before .before .before .before .before .before .args in
+    let a = (c .before .before .before .before .before .before .before .before .before .before .before .before .before .before .before .before .before .before .before .before .before .before .before .before .before .before .before .before .before .before .before .before .before .before .args) in
     let H : List ℕ = gatherOf (a .a .now) (a .b .now) (a .head .now) in
     let B : List ℕ = gatherOf (a .a .now) (a .b .now) (a .body .now) in
-    let O : List ℕ = gatherOf (a .a .now) (a .b .now) (a .told .now) in
-    emit-yes H B O (a .next .now) (a .outcome .now) (a .over-limit) (c .before .before .before .before .before .before .before .before .before .before .before .before .before .before .before .before .before .before .before .before .before .before .before .before .before .if1 .left) (sym (c .before .before .before .before .before .before .before .before .before .before .before .before .before .before .before .before .before .before .before .before .before .before .h .given .1) ∙ c .before .before .before .before .before .before .before .before .before .before .before .before .before .before .before .before .before .before .before .before .before .before .before .before .measure .ensures) (sym (c .before .before .before .before .before .before .before .before .before .before .before .before .before .before .before .before .before .before .m .given .1) ∙ c .before .before .before .before .before .before .before .before .before .before .before .before .before .before .before .before .before .before .before .before .measure2 .ensures) (c .before .before .before .before .before .before .before .before .before .before .before .before .before .before .before .before .if2 .left) (sym (c .before .before .before .before .before .before .before .before .before .before .before .before .before .o .given .1) ∙ c .before .before .before .before .before .before .before .before .before .before .before .before .before .before .before .measure3 .ensures) (c .before .before .before .before .before .before .before .before .before .before .gather .ensures) (c .before .before .before .before .before .before .gather2 .ensures) (c .before .before .gather3 .ensures) refl
+    let O : List ℕ = gatherOf (a .c .now) (a .b .now) (a .told .now) in
+    emit-yes H B O (a .next .now) (a .outcome .now) (a .over-limit) ((c .before .before .before .before .before .before .before .before .before .before .before .before .before .before .before .before .before .before .before .before .before .before .before .before .before .if1) .left) (sym ((c .before .before .before .before .before .before .before .before .before .before .before .before .before .before .before .before .before .before .before .before .before .before .h) .given .1) ∙ (c .before .before .before .before .before .before .before .before .before .before .before .before .before .before .before .before .before .before .before .before .before .before .before .before .measure) .ensures) (sym ((c .before .before .before .before .before .before .before .before .before .before .before .before .before .before .before .before .before .before .m) .given .1) ∙ (c .before .before .before .before .before .before .before .before .before .before .before .before .before .before .before .before .before .before .before .before .measure2) .ensures) ((c .before .before .before .before .before .before .before .before .before .before .before .before .before .before .before .before .if2) .left) (sym ((c .before .before .before .before .before .before .before .before .before .before .before .before .before .o) .given .1) ∙ (c .before .before .before .before .before .before .before .before .before .before .before .before .before .before .before .measure3) .ensures) ((c .before .before .before .before .before .before .before .before .before .before .gather) .ensures) ((c .before .before .before .before .before .before .gather2) .ensures) ((c .before .before .gather3) .ensures) refl
 
 pub emit-spec : {M : Type 1} → statement M
 emit-spec =
@@ -187,7 +187,7 @@ emit-spec =
     gather-requires
     gather-requires-2
     gather-requires-3
-    add-t18
+    add-t19
     same-length
     same-length-2
     returns-6)

@@ -1,12 +1,11 @@
 use Rattle.publication.specs.Tests.{denied, granted}
-use mathlib.Core.Path.{sym, _∙_}
+use mathlib.Core.Path.{refl, sym, _∙_}
 use mathlib.Core.List.{[], _∷_}
 use lib.ListN.{length}
 use Rattle.machine.specs.Actions.{Applied}
 use Rattle.machine.specs.Next.{unpinned}
 use Rattle.requests.specs.Meaning.{textOf, referenceOf, contextOf, faultsOf}
 use Rattle.next.specs.Call.{refused, done}
-use Rattle.next.specs.Outcome.{applied-told}
 use Rattle.publication.specs.UnpinRule.{unpin-unnamed, unpin-invalid, unpin-other, unpin-taken}
 use Rattle.publication.specs.UnpinCall.{unpin-found, unpin-compares, unpin-small, unpin-shows}
 use Rattle.publication.specs.Pins.{unpinned-body}
@@ -45,6 +44,9 @@ slice-aggregate-locate c = search needs
 locate-requires : tie.Need-locate-requires
 locate-requires c κs = search needs
 
+row-requires : tie.Need-row-requires
+row-requires c κs = search needs
+
 add-clip : tie.Need-add-clip
 add-clip c = search needs
 
@@ -58,7 +60,7 @@ refuse-requires-3 : tie.Need-refuse-requires-3
 refuse-requires-3 c κs = search needs
 
 returns-3 : tie.Need-returns-3
-returns-3 c = refused (c .before .before .before .before .before .before .before .before .before .before .before .before .before .before .before .before .before .before .before .before .pre) 8 (unpin-other ((c .before .before .before .before .before .before .before .before .before .before .before .before .before .before .before .before .before .before .before .before .pre) .state) (textOf ((c .before .before .before .before .before .before .before .before .before .before .before .before .before .before .before .before .before .before .before .before .args) .request .now) ((c .before .before .before .before .before .before .before .before .before .before .before .before .before .before .before .before .before .before .before .before .args) .a .«pin_id»)) (referenceOf ((c .before .before .before .before .before .before .before .before .before .before .before .before .before .before .before .before .before .before .before .before .args) .request .now) ((c .before .before .before .before .before .before .before .before .before .before .before .before .before .before .before .before .before .before .before .before .args) .a .expected)) (contextOf ((c .before .before .before .before .before .before .before .before .before .before .before .before .before .before .before .before .before .before .before .before .args) .x)) (faultsOf ((c .before .before .before .before .before .before .before .before .before .before .before .before .before .before .before .before .before .before .before .before .args) .f)) (sym ((c .before .before .before .before .before .before .before .before .before .before .before .before .before .is-empty) .ensures) ∙ (c .before .before .before .before .before .before .before .before .before .before .before .before .if1) .left) (granted _ _ ((c .before .before .before .before .before .before .before .before .before .before .before .valid-reference) .ensures) ((c .before .before .before .before .before .before .before .before .before .before .if2) .left)) (denied _ _ (unpin-compares (c .before .before .before .before .before .before .before .before .before .before .before .before .before .before .before .before .before .before .before .before .pre) _ ((c .before .before .before .before .before .before .clip) .ensures) _ ((c .before .before .before .before .locate) .ensures) _ _ ((c .before .before .before .clip2) .ensures) ((c .before .before .row-holds) .ensures)) ((c .before .if3) .taken))) ((c .refuse3) .ensures)
+returns-3 c = refused (c .before .before .before .before .before .before .before .before .before .before .before .before .before .before .before .before .before .before .before .before .before .pre) 8 (unpin-other ((c .before .before .before .before .before .before .before .before .before .before .before .before .before .before .before .before .before .before .before .before .before .pre) .state) (textOf ((c .before .before .before .before .before .before .before .before .before .before .before .before .before .before .before .before .before .before .before .before .before .args) .request .now) ((c .before .before .before .before .before .before .before .before .before .before .before .before .before .before .before .before .before .before .before .before .before .args) .a .«pin_id»)) (referenceOf ((c .before .before .before .before .before .before .before .before .before .before .before .before .before .before .before .before .before .before .before .before .before .args) .request .now) ((c .before .before .before .before .before .before .before .before .before .before .before .before .before .before .before .before .before .before .before .before .before .args) .a .expected)) (contextOf ((c .before .before .before .before .before .before .before .before .before .before .before .before .before .before .before .before .before .before .before .before .before .args) .x)) (faultsOf ((c .before .before .before .before .before .before .before .before .before .before .before .before .before .before .before .before .before .before .before .before .before .args) .f)) (sym ((c .before .before .before .before .before .before .before .before .before .before .before .before .before .before .is-empty) .ensures) ∙ (c .before .before .before .before .before .before .before .before .before .before .before .before .before .if1) .left) (granted _ _ ((c .before .before .before .before .before .before .before .before .before .before .before .before .valid-reference) .ensures) ((c .before .before .before .before .before .before .before .before .before .before .before .if2) .left)) (denied _ _ (unpin-compares (c .before .before .before .before .before .before .before .before .before .before .before .before .before .before .before .before .before .before .before .before .before .pre) _ ((c .before .before .before .before .before .before .before .clip) .ensures) _ ((c .before .before .before .before .before .locate) .ensures) _ _ _ ((c .before .before .before .before .row) .ensures) ((c .before .before .before .clip2) .ensures) ((c .before .before .row-holds) .ensures)) ((c .before .if3) .taken))) ((c .refuse3) .ensures)
 
 after-remove-requires : tie.Need-after-remove-requires
 after-remove-requires c κs = search needs
@@ -73,7 +75,7 @@ slice-aggregate-emit : tie.Need-slice-aggregate-emit
 slice-aggregate-emit c = search needs
 
 emit-requires : tie.Need-emit-requires
-emit-requires c κs = (unpin-small (c .before .before .before .before .before .before .before .before .before .before .before .before .before .before .before .before .before .before .before .before .before .before .before .before .before .pre) _ ((c .before .before .before .before .before .before .before .before .before .before .before .clip) .ensures) _ ((c .before .before .before .before .before .before .before .before .before .locate) .ensures) _ _ ((c .before .before .before .before .before .after-remove) .ensures) ((c .before .before .before .before .after-change) .ensures), tt)
+emit-requires c κs = (unpin-small (c .before .before .before .before .before .before .before .before .before .before .before .before .before .before .before .before .before .before .before .before .before .before .before .before .before .before .pre) _ ((c .before .before .before .before .before .before .before .before .before .before .before .before .clip) .ensures) _ ((c .before .before .before .before .before .before .before .before .before .before .locate) .ensures) _ _ ((c .before .before .before .before .before .after-remove) .ensures) ((c .before .before .before .before .after-change) .ensures), tt)
 
 same-length : tie.Need-same-length
 same-length c = search needs
@@ -82,11 +84,11 @@ same-length-2 : tie.Need-same-length-2
 same-length-2 c = search needs
 
 returns-4 : tie.Need-returns-4
-returns-4 c = done (c .before .before .before .before .before .before .before .before .before .before .before .before .before .before .before .before .before .before .before .before .before .before .before .before .before .before .before .before .before .before .pre) (unpinned ((c .before .before .before .before .before .before .before .before .before .before .before .before .before .before .before .before .before .before .before .before .before .before .before .before .before .before .before .before .before .before .pre) .state) (textOf ((c .before .before .before .before .before .before .before .before .before .before .before .before .before .before .before .before .before .before .before .before .before .before .before .before .before .before .before .before .before .before .args) .request .now) ((c .before .before .before .before .before .before .before .before .before .before .before .before .before .before .before .before .before .before .before .before .before .before .before .before .before .before .before .before .before .before .args) .a .«pin_id»))) Applied 0 ((c .before .before .before .before .before .before .before .before .before .after-change) .result) (0 ∷ (c .before .before .before .before .before .before .before .before .before .before .before .before .before .before .before .before .before .before .before .before .before .before .before .before .before .before .before .before .before .before .args) .c .intents .at ∷ (c .before .before .before .before .before .before .before .before .less) .result ∷ 0 ∷ (c .before .before .before .before .before .before .before .before .before .before .before .before .before .before .locate) .result .end ∷ length ((c .before .before .before .before .before .before .before .before .before .before .before .before .before .before .before .before .before .before .before .before .before .before .before .before .before .before .before .before .before .before .args) .image .now) ∷ []) PublicationOutcome.Applied
-    (unpin-taken ((c .before .before .before .before .before .before .before .before .before .before .before .before .before .before .before .before .before .before .before .before .before .before .before .before .before .before .before .before .before .before .pre) .state) (textOf ((c .before .before .before .before .before .before .before .before .before .before .before .before .before .before .before .before .before .before .before .before .before .before .before .before .before .before .before .before .before .before .args) .request .now) ((c .before .before .before .before .before .before .before .before .before .before .before .before .before .before .before .before .before .before .before .before .before .before .before .before .before .before .before .before .before .before .args) .a .«pin_id»)) (referenceOf ((c .before .before .before .before .before .before .before .before .before .before .before .before .before .before .before .before .before .before .before .before .before .before .before .before .before .before .before .before .before .before .args) .request .now) ((c .before .before .before .before .before .before .before .before .before .before .before .before .before .before .before .before .before .before .before .before .before .before .before .before .before .before .before .before .before .before .args) .a .expected)) (contextOf ((c .before .before .before .before .before .before .before .before .before .before .before .before .before .before .before .before .before .before .before .before .before .before .before .before .before .before .before .before .before .before .args) .x)) (faultsOf ((c .before .before .before .before .before .before .before .before .before .before .before .before .before .before .before .before .before .before .before .before .before .before .before .before .before .before .before .before .before .before .args) .f)) (sym ((c .before .before .before .before .before .before .before .before .before .before .before .before .before .before .before .before .before .before .before .before .before .before .before .is-empty) .ensures) ∙ (c .before .before .before .before .before .before .before .before .before .before .before .before .before .before .before .before .before .before .before .before .before .before .if1) .left) (granted _ _ ((c .before .before .before .before .before .before .before .before .before .before .before .before .before .before .before .before .before .before .before .before .before .valid-reference) .ensures) ((c .before .before .before .before .before .before .before .before .before .before .before .before .before .before .before .before .before .before .before .before .if2) .left)) (granted _ _ (unpin-compares (c .before .before .before .before .before .before .before .before .before .before .before .before .before .before .before .before .before .before .before .before .before .before .before .before .before .before .before .before .before .before .pre) _ ((c .before .before .before .before .before .before .before .before .before .before .before .before .before .before .before .before .clip) .ensures) _ ((c .before .before .before .before .before .before .before .before .before .before .before .before .before .before .locate) .ensures) _ _ ((c .before .before .before .before .before .before .before .before .before .before .before .before .before .clip2) .ensures) ((c .before .before .before .before .before .before .before .before .before .before .before .before .row-holds) .ensures)) ((c .before .before .before .before .before .before .before .before .before .before .before .if3) .left)))
-    (unpin-shows (c .before .before .before .before .before .before .before .before .before .before .before .before .before .before .before .before .before .before .before .before .before .before .before .before .before .before .before .before .before .before .pre) _ ((c .before .before .before .before .before .before .before .before .before .before .before .before .before .before .before .before .clip) .ensures) _ ((c .before .before .before .before .before .before .before .before .before .before .before .before .before .before .locate) .ensures) _ _ ((c .before .before .before .before .before .before .before .before .before .before .after-remove) .ensures) ((c .before .before .before .before .before .before .before .before .before .after-change) .ensures))
-    (unpinned-body (c .before .before .before .before .before .before .before .before .before .before .before .before .before .before .before .before .before .before .before .before .before .before .before .before .before .before .before .before .before .before .pre) _ _ (unpin-found (c .before .before .before .before .before .before .before .before .before .before .before .before .before .before .before .before .before .before .before .before .before .before .before .before .before .before .before .before .before .before .pre) _ ((c .before .before .before .before .before .before .before .before .before .before .before .before .before .before .before .before .clip) .ensures) _ ((c .before .before .before .before .before .before .before .before .before .before .before .before .before .before .locate) .ensures)) _ ((c .before .before .before .before .before .before .before .before .less) .ensures))
-    (applied-told ((c .before .before .before .before .before .before .before .before .before .before .before .before .before .before .before .before .before .before .before .before .before .before .before .before .before .before .before .before .before .before .args) .image .now) ((c .before .before .before .before .before .before .before .before .before .before .before .before .before .before .before .before .before .before .before .before .before .before .before .before .before .before .before .before .before .before .args) .request .now))
+returns-4 c = done (c .before .before .before .before .before .before .before .before .before .before .before .before .before .before .before .before .before .before .before .before .before .before .before .before .before .before .before .before .before .before .before .pre) (unpinned ((c .before .before .before .before .before .before .before .before .before .before .before .before .before .before .before .before .before .before .before .before .before .before .before .before .before .before .before .before .before .before .before .pre) .state) (textOf ((c .before .before .before .before .before .before .before .before .before .before .before .before .before .before .before .before .before .before .before .before .before .before .before .before .before .before .before .before .before .before .before .args) .request .now) ((c .before .before .before .before .before .before .before .before .before .before .before .before .before .before .before .before .before .before .before .before .before .before .before .before .before .before .before .before .before .before .before .args) .a .«pin_id»))) Applied 0 ((c .before .before .before .before .before .before .before .before .before .after-change) .result) (0 ∷ (c .before .before .before .before .before .before .before .before .before .before .before .before .before .before .before .before .before .before .before .before .before .before .before .before .before .before .before .before .before .before .before .args) .c .intents .at ∷ (c .before .before .before .before .before .before .before .before .less) .result ∷ 0 ∷ (c .before .before .before .before .before .before .before .before .before .before .before .before .before .before .before .locate) .result .end ∷ length ((c .before .before .before .before .before .before .before .before .before .before .before .before .before .before .before .before .before .before .before .before .before .before .before .before .before .before .before .before .before .before .before .args) .image .now) ∷ []) ((c .before .before .before .before .before .before .before .before .before .before .before .before .before .before .before .before .before .before .before .before .before .before .before .before .before .before .before .before .before .before .before .args) .image .now) PublicationOutcome.Applied
+    (unpin-taken ((c .before .before .before .before .before .before .before .before .before .before .before .before .before .before .before .before .before .before .before .before .before .before .before .before .before .before .before .before .before .before .before .pre) .state) (textOf ((c .before .before .before .before .before .before .before .before .before .before .before .before .before .before .before .before .before .before .before .before .before .before .before .before .before .before .before .before .before .before .before .args) .request .now) ((c .before .before .before .before .before .before .before .before .before .before .before .before .before .before .before .before .before .before .before .before .before .before .before .before .before .before .before .before .before .before .before .args) .a .«pin_id»)) (referenceOf ((c .before .before .before .before .before .before .before .before .before .before .before .before .before .before .before .before .before .before .before .before .before .before .before .before .before .before .before .before .before .before .before .args) .request .now) ((c .before .before .before .before .before .before .before .before .before .before .before .before .before .before .before .before .before .before .before .before .before .before .before .before .before .before .before .before .before .before .before .args) .a .expected)) (contextOf ((c .before .before .before .before .before .before .before .before .before .before .before .before .before .before .before .before .before .before .before .before .before .before .before .before .before .before .before .before .before .before .before .args) .x)) (faultsOf ((c .before .before .before .before .before .before .before .before .before .before .before .before .before .before .before .before .before .before .before .before .before .before .before .before .before .before .before .before .before .before .before .args) .f)) (sym ((c .before .before .before .before .before .before .before .before .before .before .before .before .before .before .before .before .before .before .before .before .before .before .before .before .is-empty) .ensures) ∙ (c .before .before .before .before .before .before .before .before .before .before .before .before .before .before .before .before .before .before .before .before .before .before .before .if1) .left) (granted _ _ ((c .before .before .before .before .before .before .before .before .before .before .before .before .before .before .before .before .before .before .before .before .before .before .valid-reference) .ensures) ((c .before .before .before .before .before .before .before .before .before .before .before .before .before .before .before .before .before .before .before .before .before .if2) .left)) (granted _ _ (unpin-compares (c .before .before .before .before .before .before .before .before .before .before .before .before .before .before .before .before .before .before .before .before .before .before .before .before .before .before .before .before .before .before .before .pre) _ ((c .before .before .before .before .before .before .before .before .before .before .before .before .before .before .before .before .before .clip) .ensures) _ ((c .before .before .before .before .before .before .before .before .before .before .before .before .before .before .before .locate) .ensures) _ _ _ ((c .before .before .before .before .before .before .before .before .before .before .before .before .before .before .row) .ensures) ((c .before .before .before .before .before .before .before .before .before .before .before .before .before .clip2) .ensures) ((c .before .before .before .before .before .before .before .before .before .before .before .before .row-holds) .ensures)) ((c .before .before .before .before .before .before .before .before .before .before .before .if3) .left)))
+    (unpin-shows (c .before .before .before .before .before .before .before .before .before .before .before .before .before .before .before .before .before .before .before .before .before .before .before .before .before .before .before .before .before .before .before .pre) _ ((c .before .before .before .before .before .before .before .before .before .before .before .before .before .before .before .before .before .clip) .ensures) _ ((c .before .before .before .before .before .before .before .before .before .before .before .before .before .before .before .locate) .ensures) _ _ ((c .before .before .before .before .before .before .before .before .before .before .after-remove) .ensures) ((c .before .before .before .before .before .before .before .before .before .after-change) .ensures))
+    (unpinned-body (c .before .before .before .before .before .before .before .before .before .before .before .before .before .before .before .before .before .before .before .before .before .before .before .before .before .before .before .before .before .before .before .pre) _ _ (unpin-found (c .before .before .before .before .before .before .before .before .before .before .before .before .before .before .before .before .before .before .before .before .before .before .before .before .before .before .before .before .before .before .before .pre) _ ((c .before .before .before .before .before .before .before .before .before .before .before .before .before .before .before .before .before .clip) .ensures) _ ((c .before .before .before .before .before .before .before .before .before .before .before .before .before .before .before .locate) .ensures)) _ ((c .before .before .before .before .before .before .before .before .less) .ensures))
+    refl
     ((c .before .before .before .before .emit) .ensures)
 
 pub unpin-spec : {M : Type 1} → statement M
@@ -103,6 +105,7 @@ unpin-spec =
     add-first
     slice-aggregate-locate
     locate-requires
+    row-requires
     add-clip
     clip-requires-2
     row-holds-requires

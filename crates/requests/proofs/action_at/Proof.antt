@@ -1,17 +1,18 @@
-use Rattle.requests.specs.Checked.{peek-action, peek-case, other-past, other-case}
 use Prim.Native.Nat.{ℕ}
-use mathlib.Core.Path.{sym, ap, _∙_}
+use mathlib.Core.Path.{_≡_, refl, sym, ap, _∙_}
 use mathlib.Core.List.{List}
-use lib.ListN.{drop}
-use Rattle.machine.specs.Actions.{Action, ObserveCommittedFrontier, ObserveRangeMapEpoch, PublishCollection, AbandonCollection, RetireDelete}
-use Rattle.requests.specs.Cases.{Case}
-use Rattle.requests.specs.Peek.{peek}
+use Rattle.requests.specs.Checked.{Other, other-past, nth-other}
+use Rattle.requests.specs.Positions.{permitIn, actionsIn, actionIn, fields-place}
+use Rattle.requests.specs.declared.PublicationAction.{PublicationAction}
 use borrow.Author.Needs.{needs}
 use Rattle.requests.proofs.action_at.Statement.{statement}
 use Rattle.requests.proofs.action_at.Tie as tie
 
-abbrev under : List ℕ → ℕ → Action
-under s k = peek-action k (drop 27 s)
+under : (s : List ℕ) {k n : ℕ} → k ≡ n → actionIn s n fields-place ≡ actionIn s k fields-place
+under s h = ap (λ (n : ℕ). actionIn s n fields-place) (sym h)
+
+other : (s : List ℕ) (k : ℕ) → Other 16 k → PublicationAction.RetireDelete (permitIn s fields-place) ≡ actionIn s k fields-place
+other s k h = sym (nth-other (PublicationAction.RetireDelete (permitIn s fields-place)) (actionsIn s fields-place) 16 refl refl k (other-past 16 k h))
 
 u64-at-requires : tie.Need-u64-at-requires
 u64-at-requires c κs = search needs
@@ -65,57 +66,55 @@ permit-at-requires : tie.Need-permit-at-requires
 permit-at-requires c κs = search needs
 
 returns : tie.Need-returns
-unfolding peek
-returns c = ap (λ (n : ℕ). ObserveCommittedFrontier n) ((c .u64-at) .ensures) ∙ ap (under ((c .before .before .before .args) .s .now)) (sym ((c .before .match) .keys1))
+returns c = ap PublicationAction.ObserveCommittedFrontier ((c .u64-at) .ensures) ∙ under ((c .before .before .before .args) .s .now) ((c .before .match) .keys1)
 
 returns-2 : tie.Need-returns-2
-returns-2 c = (c .window-at) .ensures ∙ ap (under ((c .before .before .before .args) .s .now)) (sym ((c .before .match) .keys2))
+returns-2 c = ap PublicationAction.SetRetentionWindow ((c .window-at) .ensures) ∙ under ((c .before .before .before .args) .s .now) ((c .before .match) .keys2)
 
 returns-3 : tie.Need-returns-3
-unfolding peek
-returns-3 c = ap (λ (n : ℕ). ObserveRangeMapEpoch n) ((c .u64-at2) .ensures) ∙ ap (under ((c .before .before .before .args) .s .now)) (sym ((c .before .match) .keys3))
+returns-3 c = ap PublicationAction.ObserveRangeMapEpoch ((c .u64-at2) .ensures) ∙ under ((c .before .before .before .args) .s .now) ((c .before .match) .keys3)
 
 returns-4 : tie.Need-returns-4
-returns-4 c = (c .configure-at) .ensures ∙ ap (under ((c .before .before .before .args) .s .now)) (sym ((c .before .match) .keys4))
+returns-4 c = ap PublicationAction.ConfigureCollectionRoot ((c .configure-at) .ensures) ∙ under ((c .before .before .before .args) .s .now) ((c .before .match) .keys4)
 
 returns-5 : tie.Need-returns-5
-returns-5 c = (c .acquire-at) .ensures ∙ ap (under ((c .before .before .before .args) .s .now)) (sym ((c .before .match) .keys5))
+returns-5 c = ap PublicationAction.AcquireLease ((c .acquire-at) .ensures) ∙ under ((c .before .before .before .args) .s .now) ((c .before .match) .keys5)
 
 returns-6 : tie.Need-returns-6
-returns-6 c = (c .renew-at) .ensures ∙ ap (under ((c .before .before .before .args) .s .now)) (sym ((c .before .match) .keys6))
+returns-6 c = ap PublicationAction.RenewLease ((c .renew-at) .ensures) ∙ under ((c .before .before .before .args) .s .now) ((c .before .match) .keys6)
 
 returns-7 : tie.Need-returns-7
-returns-7 c = (c .release-at) .ensures ∙ ap (under ((c .before .before .before .args) .s .now)) (sym ((c .before .match) .keys7))
+returns-7 c = ap PublicationAction.ReleaseLease ((c .release-at) .ensures) ∙ under ((c .before .before .before .args) .s .now) ((c .before .match) .keys7)
 
 returns-8 : tie.Need-returns-8
-returns-8 c = (c .clock-at) .ensures ∙ ap (under ((c .before .before .before .args) .s .now)) (sym ((c .before .match) .keys8))
+returns-8 c = ap PublicationAction.AdvanceLeaseClock ((c .clock-at) .ensures) ∙ under ((c .before .before .before .args) .s .now) ((c .before .match) .keys8)
 
 returns-9 : tie.Need-returns-9
-returns-9 c = (c .collect-at) .ensures ∙ ap (under ((c .before .before .before .args) .s .now)) (sym ((c .before .match) .keys9))
+returns-9 c = ap PublicationAction.PrepareCollection ((c .collect-at) .ensures) ∙ under ((c .before .before .before .args) .s .now) ((c .before .match) .keys9)
 
 returns-10 : tie.Need-returns-10
-returns-10 c = ap PublishCollection ((c .receipt-at) .ensures) ∙ ap (under ((c .before .before .before .args) .s .now)) (sym ((c .before .match) .keys10))
+returns-10 c = ap PublicationAction.PublishCollection ((c .receipt-at) .ensures) ∙ under ((c .before .before .before .args) .s .now) ((c .before .match) .keys10)
 
 returns-11 : tie.Need-returns-11
-returns-11 c = ap AbandonCollection ((c .job-token-at) .ensures) ∙ ap (under ((c .before .before .before .args) .s .now)) (sym ((c .before .match) .keys11))
+returns-11 c = ap PublicationAction.AbandonCollection ((c .job-token-at) .ensures) ∙ under ((c .before .before .before .args) .s .now) ((c .before .match) .keys11)
 
 returns-12 : tie.Need-returns-12
-returns-12 c = (c .prepare-at) .ensures ∙ ap (under ((c .before .before .before .args) .s .now)) (sym ((c .before .match) .keys12))
+returns-12 c = ap PublicationAction.Prepare ((c .prepare-at) .ensures) ∙ under ((c .before .before .before .args) .s .now) ((c .before .match) .keys12)
 
 returns-13 : tie.Need-returns-13
-returns-13 c = (c .publish-at) .ensures ∙ ap (under ((c .before .before .before .args) .s .now)) (sym ((c .before .match) .keys13))
+returns-13 c = ap PublicationAction.Publish ((c .publish-at) .ensures) ∙ under ((c .before .before .before .args) .s .now) ((c .before .match) .keys13)
 
 returns-14 : tie.Need-returns-14
-returns-14 c = (c .pin-at) .ensures ∙ ap (under ((c .before .before .before .args) .s .now)) (sym ((c .before .match) .keys14))
+returns-14 c = ap PublicationAction.Pin ((c .pin-at) .ensures) ∙ under ((c .before .before .before .args) .s .now) ((c .before .match) .keys14)
 
 returns-15 : tie.Need-returns-15
-returns-15 c = (c .unpin-at) .ensures ∙ ap (under ((c .before .before .before .args) .s .now)) (sym ((c .before .match) .keys15))
+returns-15 c = ap PublicationAction.Unpin ((c .unpin-at) .ensures) ∙ under ((c .before .before .before .args) .s .now) ((c .before .match) .keys15)
 
 returns-16 : tie.Need-returns-16
-returns-16 c = (c .reserve-at) .ensures ∙ ap (under ((c .before .before .before .args) .s .now)) (sym ((c .before .match) .keys16))
+returns-16 c = ap PublicationAction.ReserveDelete ((c .reserve-at) .ensures) ∙ under ((c .before .before .before .args) .s .now) ((c .before .match) .keys16)
 
 returns-17 : tie.Need-returns-17
-returns-17 c = ap RetireDelete ((c .permit-at) .ensures) ∙ ap (λ (k : Case Action). peek-case k (drop 27 ((c .before .before .before .args) .s .now))) (sym (other-case ((c .before .before .before .args) .action) (other-past 16 ((c .before .before .before .args) .action) ((c .before .match) .rest))))
+returns-17 c = ap PublicationAction.RetireDelete ((c .permit-at) .ensures) ∙ other ((c .before .before .before .args) .s .now) ((c .before .before .before .args) .action) ((c .before .match) .rest)
 
 pub action-at-spec : {M : Type 1} → statement M
 action-at-spec =

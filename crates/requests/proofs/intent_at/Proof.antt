@@ -1,28 +1,18 @@
-use Rattle.image.specs.Shapes.{each-option, name, reference, reference-of}
-use Rattle.requests.proofs.Places.{keys-then, name-then, reference-then}
-use Rattle.fields.specs.Format.{option, _▹_}
-use mathlib.Core.Path.{refl, _∙_}
 use borrow.Author.Needs.{needs}
 use Rattle.requests.proofs.intent_at.Statement.{statement}
 use Rattle.requests.proofs.intent_at.Tie as tie
 
-slice-aggregate-next : tie.Need-slice-aggregate-next
-slice-aggregate-next c = search needs
+after-keys-requires : tie.Need-after-keys-requires
+after-keys-requires c κs = search needs
 
-next-requires : tie.Need-next-requires
-next-requires c κs = search needs
+after-reference-requires : tie.Need-after-reference-requires
+after-reference-requires c κs = search needs
 
-slice-aggregate-next-2 : tie.Need-slice-aggregate-next-2
-slice-aggregate-next-2 c = search needs
+after-name-requires : tie.Need-after-name-requires
+after-name-requires c κs = search needs
 
-next-requires-2 : tie.Need-next-requires-2
-next-requires-2 c κs = search needs
-
-slice-aggregate-next-3 : tie.Need-slice-aggregate-next-3
-slice-aggregate-next-3 c = search needs
-
-next-requires-3 : tie.Need-next-requires-3
-next-requires-3 c κs = search needs
+keys-at-requires : tie.Need-keys-at-requires
+keys-at-requires c κs = search needs
 
 reference-at-requires : tie.Need-reference-at-requires
 reference-at-requires c κs = search needs
@@ -34,18 +24,16 @@ maybe-reference-at-requires : tie.Need-maybe-reference-at-requires
 maybe-reference-at-requires c κs = search needs
 
 returns : tie.Need-returns
-returns c = let s = (c .before .before .before .before .before .before .before .before .before .before .args) .s .now in let h = keys-then s ((c .before .before .before .before .before .before .before .before .before .before .args) .at) ((c .before .before .before .before .before .before .before .next) .result) (reference ▹ name ▹ option reference) ((c .before .before .before .before .before .before .before .next) .ensures) (reference-then s ((c .before .before .before .before .before .before .before .next) .result) ((c .before .before .before .before .before .next2) .result) (name ▹ option reference) ((c .before .before .reference-at) .ensures) ((c .before .before .before .before .before .next2) .ensures) (name-then s ((c .before .before .before .before .before .next2) .result) ((c .before .before .before .next3) .result) (option reference) ((c .before .text-place) .ensures) ((c .before .before .before .next3) .ensures) refl)) in λ i. record { object-keys = h i .0; manifest = reference-of (h i .1 .0); destination-root = h i .1 .1 .0; expected-prior-root = ((c .maybe-reference-at) .ensures ∙ (λ j. each-option reference-of (h j .1 .1 .1))) i }
+returns c = rw ((c .before .before .before .keys-at) .ensures, (c .before .before .reference-at) .ensures, (c .before .text-place) .ensures, (c .maybe-reference-at) .ensures, (c .before .before .before .before .after-name) .ensures, (c .before .before .before .before .before .after-reference) .ensures, (c .before .before .before .before .before .before .after-keys) .ensures)
 
 pub intent-at-spec : {M : Type 1} → statement M
 intent-at-spec =
     tie.close
     (tie.spec
-    slice-aggregate-next
-    next-requires
-    slice-aggregate-next-2
-    next-requires-2
-    slice-aggregate-next-3
-    next-requires-3
+    after-keys-requires
+    after-reference-requires
+    after-name-requires
+    keys-at-requires
     reference-at-requires
     text-place-requires
     maybe-reference-at-requires

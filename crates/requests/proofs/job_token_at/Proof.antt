@@ -1,58 +1,30 @@
-use Rattle.requests.proofs.Places.{last-key, name-then, number-then, position-then, reference-then}
-use Rattle.image.specs.Shapes.{job-of, key, name, position, reference, u64}
-use Rattle.fields.specs.Format.{_▹_}
-use mathlib.Core.Path.{ap}
 use borrow.Author.Needs.{needs}
 use Rattle.requests.proofs.job_token_at.Statement.{statement}
 use Rattle.requests.proofs.job_token_at.Tie as tie
 
-slice-aggregate-next : tie.Need-slice-aggregate-next
-slice-aggregate-next c = search needs
+after-name-requires : tie.Need-after-name-requires
+after-name-requires c κs = search needs
 
-next-requires : tie.Need-next-requires
-next-requires c κs = search needs
+after-number-requires : tie.Need-after-number-requires
+after-number-requires c κs = search needs
 
-slice-aggregate-next-2 : tie.Need-slice-aggregate-next-2
-slice-aggregate-next-2 c = search needs
+after-position-requires : tie.Need-after-position-requires
+after-position-requires c κs = search needs
 
-next-requires-2 : tie.Need-next-requires-2
-next-requires-2 c κs = search needs
+after-number-requires-2 : tie.Need-after-number-requires-2
+after-number-requires-2 c κs = search needs
 
-slice-aggregate-next-3 : tie.Need-slice-aggregate-next-3
-slice-aggregate-next-3 c = search needs
+after-reference-requires : tie.Need-after-reference-requires
+after-reference-requires c κs = search needs
 
-next-requires-3 : tie.Need-next-requires-3
-next-requires-3 c κs = search needs
+after-name-requires-2 : tie.Need-after-name-requires-2
+after-name-requires-2 c κs = search needs
 
-slice-aggregate-next-4 : tie.Need-slice-aggregate-next-4
-slice-aggregate-next-4 c = search needs
+after-number-requires-3 : tie.Need-after-number-requires-3
+after-number-requires-3 c κs = search needs
 
-next-requires-4 : tie.Need-next-requires-4
-next-requires-4 c κs = search needs
-
-slice-aggregate-next-5 : tie.Need-slice-aggregate-next-5
-slice-aggregate-next-5 c = search needs
-
-next-requires-5 : tie.Need-next-requires-5
-next-requires-5 c κs = search needs
-
-slice-aggregate-next-6 : tie.Need-slice-aggregate-next-6
-slice-aggregate-next-6 c = search needs
-
-next-requires-6 : tie.Need-next-requires-6
-next-requires-6 c κs = search needs
-
-slice-aggregate-next-7 : tie.Need-slice-aggregate-next-7
-slice-aggregate-next-7 c = search needs
-
-next-requires-7 : tie.Need-next-requires-7
-next-requires-7 c κs = search needs
-
-slice-aggregate-next-8 : tie.Need-slice-aggregate-next-8
-slice-aggregate-next-8 c = search needs
-
-next-requires-8 : tie.Need-next-requires-8
-next-requires-8 c κs = search needs
+after-number-requires-4 : tie.Need-after-number-requires-4
+after-number-requires-4 c κs = search needs
 
 text-place-requires : tie.Need-text-place-requires
 text-place-requires c κs = search needs
@@ -82,28 +54,20 @@ text-place-requires-3 : tie.Need-text-place-requires-3
 text-place-requires-3 c κs = search needs
 
 returns : tie.Need-returns
-returns c = let s = (c .before .before .before .before .before .before .before .before .before .before .before .before .before .before .before .before .before .before .before .before .before .before .before .before .before .before .args) .s .now in ap job-of (name-then s ((c .before .before .before .before .before .before .before .before .before .before .before .before .before .before .before .before .before .before .before .before .before .before .before .before .before .before .args) .at) ((c .before .before .before .before .before .before .before .before .before .before .before .before .before .before .before .before .before .before .before .before .before .before .before .next) .result) (u64 ▹ position ▹ u64 ▹ reference ▹ name ▹ u64 ▹ u64 ▹ key) ((c .before .before .before .before .before .before .before .before .text-place) .ensures) ((c .before .before .before .before .before .before .before .before .before .before .before .before .before .before .before .before .before .before .before .before .before .before .before .next) .ensures) (number-then s ((c .before .before .before .before .before .before .before .before .before .before .before .before .before .before .before .before .before .before .before .before .before .before .before .next) .result) ((c .before .before .before .before .before .before .before .before .before .before .before .before .before .before .before .before .before .before .before .before .before .next2) .result) (position ▹ u64 ▹ reference ▹ name ▹ u64 ▹ u64 ▹ key) ((c .before .before .before .before .before .before .before .u64-at) .ensures) ((c .before .before .before .before .before .before .before .before .before .before .before .before .before .before .before .before .before .before .before .before .before .next2) .ensures) (position-then s ((c .before .before .before .before .before .before .before .before .before .before .before .before .before .before .before .before .before .before .before .before .before .next2) .result) ((c .before .before .before .before .before .before .before .before .before .before .before .before .before .before .before .before .before .before .before .next3) .result) (u64 ▹ reference ▹ name ▹ u64 ▹ u64 ▹ key) ((c .before .before .before .before .before .before .position-at) .ensures) ((c .before .before .before .before .before .before .before .before .before .before .before .before .before .before .before .before .before .before .before .next3) .ensures) (number-then s ((c .before .before .before .before .before .before .before .before .before .before .before .before .before .before .before .before .before .before .before .next3) .result) ((c .before .before .before .before .before .before .before .before .before .before .before .before .before .before .before .before .before .next4) .result) (reference ▹ name ▹ u64 ▹ u64 ▹ key) ((c .before .before .before .before .before .u64-at2) .ensures) ((c .before .before .before .before .before .before .before .before .before .before .before .before .before .before .before .before .before .next4) .ensures) (reference-then s ((c .before .before .before .before .before .before .before .before .before .before .before .before .before .before .before .before .before .next4) .result) ((c .before .before .before .before .before .before .before .before .before .before .before .before .before .before .before .next5) .result) (name ▹ u64 ▹ u64 ▹ key) ((c .before .before .before .before .reference-at) .ensures) ((c .before .before .before .before .before .before .before .before .before .before .before .before .before .before .before .next5) .ensures) (name-then s ((c .before .before .before .before .before .before .before .before .before .before .before .before .before .before .before .next5) .result) ((c .before .before .before .before .before .before .before .before .before .before .before .before .before .next6) .result) (u64 ▹ u64 ▹ key) ((c .before .before .before .text-place2) .ensures) ((c .before .before .before .before .before .before .before .before .before .before .before .before .before .next6) .ensures) (number-then s ((c .before .before .before .before .before .before .before .before .before .before .before .before .before .next6) .result) ((c .before .before .before .before .before .before .before .before .before .before .before .next7) .result) (u64 ▹ key) ((c .before .before .u64-at3) .ensures) ((c .before .before .before .before .before .before .before .before .before .before .before .next7) .ensures) (number-then s ((c .before .before .before .before .before .before .before .before .before .before .before .next7) .result) ((c .before .before .before .before .before .before .before .before .before .next8) .result) key ((c .before .u64-at4) .ensures) ((c .before .before .before .before .before .before .before .before .before .next8) .ensures) (last-key s ((c .before .before .before .before .before .before .before .before .before .next8) .result) ((c .text-place3) .ensures))))))))))
+returns c = rw ((c .before .before .before .before .before .before .before .before .text-place) .ensures, (c .before .before .before .before .before .before .before .u64-at) .ensures, (c .before .before .before .before .before .before .position-at) .ensures, (c .before .before .before .before .before .u64-at2) .ensures, (c .before .before .before .before .reference-at) .ensures, (c .before .before .before .text-place2) .ensures, (c .before .before .u64-at3) .ensures, (c .before .u64-at4) .ensures, (c .text-place3) .ensures, (c .before .before .before .before .before .before .before .before .before .after-number4) .ensures, (c .before .before .before .before .before .before .before .before .before .before .after-number3) .ensures, (c .before .before .before .before .before .before .before .before .before .before .before .after-name2) .ensures, (c .before .before .before .before .before .before .before .before .before .before .before .before .after-reference) .ensures, (c .before .before .before .before .before .before .before .before .before .before .before .before .before .after-number2) .ensures, (c .before .before .before .before .before .before .before .before .before .before .before .before .before .before .after-position) .ensures, (c .before .before .before .before .before .before .before .before .before .before .before .before .before .before .before .after-number) .ensures, (c .before .before .before .before .before .before .before .before .before .before .before .before .before .before .before .before .after-name) .ensures)
 
 pub job-token-at-spec : {M : Type 1} → statement M
 job-token-at-spec =
     tie.close
     (tie.spec
-    slice-aggregate-next
-    next-requires
-    slice-aggregate-next-2
-    next-requires-2
-    slice-aggregate-next-3
-    next-requires-3
-    slice-aggregate-next-4
-    next-requires-4
-    slice-aggregate-next-5
-    next-requires-5
-    slice-aggregate-next-6
-    next-requires-6
-    slice-aggregate-next-7
-    next-requires-7
-    slice-aggregate-next-8
-    next-requires-8
+    after-name-requires
+    after-number-requires
+    after-position-requires
+    after-number-requires-2
+    after-reference-requires
+    after-name-requires-2
+    after-number-requires-3
+    after-number-requires-4
     text-place-requires
     u64-at-requires
     position-at-requires

@@ -1,64 +1,38 @@
-use Rattle.requests.proofs.Places.{closure-then, name-then, number-then}
-use Rattle.image.specs.Shapes.{closure, lease-of, name, position, position-parts, u64}
-use Rattle.fields.specs.Format.{_▹_}
-use mathlib.Core.Path.{ap}
+use native.Mathlib.Omega.{arith}
+use Rattle.requests.specs.PositionLaws.{closure-end, closure-within}
 use borrow.Author.Needs.{needs}
 use Rattle.requests.proofs.lease_token_at.Statement.{statement}
 use Rattle.requests.proofs.lease_token_at.Tie as tie
 
-slice-aggregate-next : tie.Need-slice-aggregate-next
-slice-aggregate-next c = search needs
+after-name-requires : tie.Need-after-name-requires
+after-name-requires c κs = search needs
 
-next-requires : tie.Need-next-requires
-next-requires c κs = search needs
+after-name-requires-2 : tie.Need-after-name-requires-2
+after-name-requires-2 c κs = search needs
 
-slice-aggregate-next-2 : tie.Need-slice-aggregate-next-2
-slice-aggregate-next-2 c = search needs
+after-number-requires : tie.Need-after-number-requires
+after-number-requires c κs = search needs
 
-next-requires-2 : tie.Need-next-requires-2
-next-requires-2 c κs = search needs
+after-number-requires-2 : tie.Need-after-number-requires-2
+after-number-requires-2 c κs = search needs
 
-slice-aggregate-next-3 : tie.Need-slice-aggregate-next-3
-slice-aggregate-next-3 c = search needs
+after-name-requires-3 : tie.Need-after-name-requires-3
+after-name-requires-3 c κs = search needs
 
-next-requires-3 : tie.Need-next-requires-3
-next-requires-3 c κs = search needs
+after-name-requires-4 : tie.Need-after-name-requires-4
+after-name-requires-4 c κs = search needs
 
-slice-aggregate-next-4 : tie.Need-slice-aggregate-next-4
-slice-aggregate-next-4 c = search needs
+after-number-requires-3 : tie.Need-after-number-requires-3
+after-number-requires-3 c κs = search needs
 
-next-requires-4 : tie.Need-next-requires-4
-next-requires-4 c κs = search needs
+closure-at-requires : tie.Need-closure-at-requires
+closure-at-requires c κs = search needs
 
-slice-aggregate-next-5 : tie.Need-slice-aggregate-next-5
-slice-aggregate-next-5 c = search needs
+add-owner-generation : tie.Need-add-owner-generation
+add-owner-generation c = omega (arith, closure-within ((c .before .before .before .before .before .before .before .before .before .before .before .args) .s .now) _ _ ((c .before .before .closure-at) .ensures))
 
-next-requires-5 : tie.Need-next-requires-5
-next-requires-5 c κs = search needs
-
-slice-aggregate-next-6 : tie.Need-slice-aggregate-next-6
-slice-aggregate-next-6 c = search needs
-
-next-requires-6 : tie.Need-next-requires-6
-next-requires-6 c κs = search needs
-
-slice-aggregate-next-7 : tie.Need-slice-aggregate-next-7
-slice-aggregate-next-7 c = search needs
-
-next-requires-7 : tie.Need-next-requires-7
-next-requires-7 c κs = search needs
-
-slice-aggregate-next-8 : tie.Need-slice-aggregate-next-8
-slice-aggregate-next-8 c = search needs
-
-next-requires-8 : tie.Need-next-requires-8
-next-requires-8 c κs = search needs
-
-slice-aggregate-next-9 : tie.Need-slice-aggregate-next-9
-slice-aggregate-next-9 c = search needs
-
-next-requires-9 : tie.Need-next-requires-9
-next-requires-9 c κs = search needs
+after-number-requires-4 : tie.Need-after-number-requires-4
+after-number-requires-4 c κs = search needs
 
 text-place-requires : tie.Need-text-place-requires
 text-place-requires c κs = search needs
@@ -81,9 +55,6 @@ text-place-requires-4 c κs = search needs
 u64-at-requires-3 : tie.Need-u64-at-requires-3
 u64-at-requires-3 c κs = search needs
 
-closure-at-requires : tie.Need-closure-at-requires
-closure-at-requires c κs = search needs
-
 u64-at-requires-4 : tie.Need-u64-at-requires-4
 u64-at-requires-4 c κs = search needs
 
@@ -91,30 +62,22 @@ position-at-requires : tie.Need-position-at-requires
 position-at-requires c κs = search needs
 
 returns : tie.Need-returns
-returns c = let s = (c .before .before .before .before .before .before .before .before .before .before .before .before .before .before .before .before .before .before .before .before .before .before .before .before .before .before .before .before .before .args) .s .now in ap lease-of (name-then s ((c .before .before .before .before .before .before .before .before .before .before .before .before .before .before .before .before .before .before .before .before .before .before .before .before .before .before .before .before .before .args) .at) ((c .before .before .before .before .before .before .before .before .before .before .before .before .before .before .before .before .before .before .before .before .before .before .before .before .before .before .next) .result) (name ▹ u64 ▹ u64 ▹ name ▹ name ▹ u64 ▹ closure ▹ u64 ▹ position) ((c .before .before .before .before .before .before .before .before .before .text-place) .ensures) ((c .before .before .before .before .before .before .before .before .before .before .before .before .before .before .before .before .before .before .before .before .before .before .before .before .before .before .next) .ensures) (name-then s ((c .before .before .before .before .before .before .before .before .before .before .before .before .before .before .before .before .before .before .before .before .before .before .before .before .before .before .next) .result) ((c .before .before .before .before .before .before .before .before .before .before .before .before .before .before .before .before .before .before .before .before .before .before .before .before .next2) .result) (u64 ▹ u64 ▹ name ▹ name ▹ u64 ▹ closure ▹ u64 ▹ position) ((c .before .before .before .before .before .before .before .before .text-place2) .ensures) ((c .before .before .before .before .before .before .before .before .before .before .before .before .before .before .before .before .before .before .before .before .before .before .before .before .next2) .ensures) (number-then s ((c .before .before .before .before .before .before .before .before .before .before .before .before .before .before .before .before .before .before .before .before .before .before .before .before .next2) .result) ((c .before .before .before .before .before .before .before .before .before .before .before .before .before .before .before .before .before .before .before .before .before .before .next3) .result) (u64 ▹ name ▹ name ▹ u64 ▹ closure ▹ u64 ▹ position) ((c .before .before .before .before .before .before .before .u64-at) .ensures) ((c .before .before .before .before .before .before .before .before .before .before .before .before .before .before .before .before .before .before .before .before .before .before .next3) .ensures) (number-then s ((c .before .before .before .before .before .before .before .before .before .before .before .before .before .before .before .before .before .before .before .before .before .before .next3) .result) ((c .before .before .before .before .before .before .before .before .before .before .before .before .before .before .before .before .before .before .before .before .next4) .result) (name ▹ name ▹ u64 ▹ closure ▹ u64 ▹ position) ((c .before .before .before .before .before .before .u64-at2) .ensures) ((c .before .before .before .before .before .before .before .before .before .before .before .before .before .before .before .before .before .before .before .before .next4) .ensures) (name-then s ((c .before .before .before .before .before .before .before .before .before .before .before .before .before .before .before .before .before .before .before .before .next4) .result) ((c .before .before .before .before .before .before .before .before .before .before .before .before .before .before .before .before .before .before .next5) .result) (name ▹ u64 ▹ closure ▹ u64 ▹ position) ((c .before .before .before .before .before .text-place3) .ensures) ((c .before .before .before .before .before .before .before .before .before .before .before .before .before .before .before .before .before .before .next5) .ensures) (name-then s ((c .before .before .before .before .before .before .before .before .before .before .before .before .before .before .before .before .before .before .next5) .result) ((c .before .before .before .before .before .before .before .before .before .before .before .before .before .before .before .before .next6) .result) (u64 ▹ closure ▹ u64 ▹ position) ((c .before .before .before .before .text-place4) .ensures) ((c .before .before .before .before .before .before .before .before .before .before .before .before .before .before .before .before .next6) .ensures) (number-then s ((c .before .before .before .before .before .before .before .before .before .before .before .before .before .before .before .before .next6) .result) ((c .before .before .before .before .before .before .before .before .before .before .before .before .before .before .next7) .result) (closure ▹ u64 ▹ position) ((c .before .before .before .u64-at3) .ensures) ((c .before .before .before .before .before .before .before .before .before .before .before .before .before .before .next7) .ensures) (closure-then s ((c .before .before .before .before .before .before .before .before .before .before .before .before .before .before .next7) .result) ((c .before .before .before .before .before .before .before .before .before .before .before .before .next8) .result) (u64 ▹ position) ((c .before .before .closure-at) .ensures) ((c .before .before .before .before .before .before .before .before .before .before .before .before .next8) .ensures) (number-then s ((c .before .before .before .before .before .before .before .before .before .before .before .before .next8) .result) ((c .before .before .before .before .before .before .before .before .before .before .next9) .result) position ((c .before .u64-at4) .ensures) ((c .before .before .before .before .before .before .before .before .before .before .next9) .ensures) (ap position-parts ((c .position-at) .ensures)))))))))))
+returns c = rw ((c .before .before .before .before .before .before .before .before .text-place) .ensures, (c .before .before .before .before .before .before .before .text-place2) .ensures, (c .before .before .before .before .before .before .u64-at) .ensures, (c .before .before .before .before .before .u64-at2) .ensures, (c .before .before .before .before .text-place3) .ensures, (c .before .before .before .text-place4) .ensures, (c .before .before .u64-at3) .ensures, (c .before .u64-at4) .ensures, (c .position-at) .ensures, (c .before .before .before .before .before .before .before .before .before .after-number4) .ensures, (c .before .before .before .before .before .before .before .before .before .before .before .before .closure-at) .ensures, closure-end, (c .before .before .before .before .before .before .before .before .before .before .before .before .before .after-number3) .ensures, (c .before .before .before .before .before .before .before .before .before .before .before .before .before .before .after-name4) .ensures, (c .before .before .before .before .before .before .before .before .before .before .before .before .before .before .before .after-name3) .ensures, (c .before .before .before .before .before .before .before .before .before .before .before .before .before .before .before .before .after-number2) .ensures, (c .before .before .before .before .before .before .before .before .before .before .before .before .before .before .before .before .before .after-number) .ensures, (c .before .before .before .before .before .before .before .before .before .before .before .before .before .before .before .before .before .before .after-name2) .ensures, (c .before .before .before .before .before .before .before .before .before .before .before .before .before .before .before .before .before .before .before .after-name) .ensures)
 
 pub lease-token-at-spec : {M : Type 1} → statement M
 lease-token-at-spec =
     tie.close
     (tie.spec
-    slice-aggregate-next
-    next-requires
-    slice-aggregate-next-2
-    next-requires-2
-    slice-aggregate-next-3
-    next-requires-3
-    slice-aggregate-next-4
-    next-requires-4
-    slice-aggregate-next-5
-    next-requires-5
-    slice-aggregate-next-6
-    next-requires-6
-    slice-aggregate-next-7
-    next-requires-7
-    slice-aggregate-next-8
-    next-requires-8
-    slice-aggregate-next-9
-    next-requires-9
+    after-name-requires
+    after-name-requires-2
+    after-number-requires
+    after-number-requires-2
+    after-name-requires-3
+    after-name-requires-4
+    after-number-requires-3
+    closure-at-requires
+    add-owner-generation
+    after-number-requires-4
     text-place-requires
     text-place-requires-2
     u64-at-requires
@@ -122,7 +85,6 @@ lease-token-at-spec =
     text-place-requires-3
     text-place-requires-4
     u64-at-requires-3
-    closure-at-requires
     u64-at-requires-4
     position-at-requires
     returns)

@@ -1,7 +1,8 @@
-use mathlib.Core.Path.{sym, _∙_}
+use mathlib.Core.Path.{sym, ap, _∙_}
 use Rattle.requests.specs.Request.{decodeRequest}
 use Rattle.requests.specs.Checked.{reply-fault}
-use Rattle.requests.proofs.Heads.{request-whole, request-looked}
+use Rattle.requests.specs.Positions.{parsedIn}
+use Rattle.requests.proofs.Heads.{parsed, request-placed}
 use borrow.Author.Needs.{needs}
 use Rattle.requests.proofs.parse.Statement.{statement}
 use Rattle.requests.proofs.parse.Tie as tie
@@ -31,10 +32,10 @@ action-at-requires : tie.Need-action-at-requires
 action-at-requires c κs = search needs
 
 returns : tie.Need-returns
-returns c = reply-fault (decodeRequest ((c .before .before .before .before .before .args) .s .now)) _ (sym ((c .before .before .before .check-request) .ensures) ∙ (c .before .c) .given .1)
+returns c = let s = (c .before .before .before .before .before .args) .s .now in parsed s (ap (parsedIn s) (reply-fault (decodeRequest s) _ (sym ((c .before .before .before .check-request) .ensures) ∙ (c .before .c) .given .1)))
 
 returns-2 : tie.Need-returns-2
-returns-2 c = request-looked ((c .before .before .before .before .before .before .before .before .before .args) .s .now) _ _ _ _ _ ((c .before .before .before .before .context-at) .ensures) ((c .before .before .before .flags-at) .ensures) ((c .before .before .faults-from) .ensures) ((c .before .byte-at) .ensures) ((c .action-at) .ensures) ∙ request-whole ((c .before .before .before .before .before .before .before .before .before .args) .s .now) (sym ((c .before .before .before .before .before .before .before .check-request) .ensures) ∙ (c .before .before .before .before .before .enum-told) .given .1)
+returns-2 c = let s = (c .before .before .before .before .before .before .before .before .before .args) .s .now in parsed s (request-placed s _ _ _ _ _ ((c .before .before .before .before .context-at) .ensures) ((c .before .before .before .flags-at) .ensures) ((c .before .before .faults-from) .ensures) ((c .before .byte-at) .ensures) ((c .action-at) .ensures) (sym ((c .before .before .before .before .before .before .before .check-request) .ensures) ∙ (c .before .before .before .before .before .enum-told) .given .1))
 
 pub parse-spec : {M : Type 1} → statement M
 parse-spec =

@@ -1,9 +1,9 @@
 use mathlib.Core.Path.{sym, ap, _∙_}
 use Rattle.fields.specs.Codes.{codesOf, codeOf, codes}
-use Rattle.image.specs.Contents.{answer}
-use Rattle.image.specs.Shapes.{lease, lease-of}
-use Rattle.requests.specs.Request.{decodeToken, read-token}
-use Rattle.requests.specs.Checked.{reply-fault, check-is, made-whole}
+use Rattle.requests.specs.Request.{decodeToken}
+use Rattle.requests.specs.Checked.{reply-fault}
+use Rattle.requests.specs.Positions.{tokenIn}
+use Rattle.requests.proofs.Heads.{token-checked, token-read, token-placed}
 use borrow.Author.Needs.{needs}
 use Rattle.requests.proofs.parse_token.Statement.{statement}
 use Rattle.requests.proofs.parse_token.Tie as tie
@@ -24,12 +24,12 @@ lease-token-at-requires : tie.Need-lease-token-at-requires
 lease-token-at-requires c κs = search needs
 
 returns : tie.Need-returns
-unfolding decodeToken read-token codesOf codeOf codes
-returns c = reply-fault (decodeToken ((c .before .before .before .before .before .before .args) .s .now)) _ (sym ((c .before .before .before .check-record) .ensures ∙ check-is lease lease-of ((c .before .before .before .before .before .before .args) .s .now)) ∙ (c .before .c) .given .1)
+unfolding codesOf codeOf codes
+returns c = let s = (c .before .before .before .before .before .before .args) .s .now in token-read s (ap (tokenIn s) (reply-fault (decodeToken s) _ (sym ((c .before .before .before .check-record) .ensures ∙ token-checked s) ∙ (c .before .c) .given .1)))
 
 returns-2 : tie.Need-returns-2
-unfolding decodeToken read-token codesOf codeOf codes
-returns-2 c = ap answer ((c .lease-token-at) .ensures) ∙ made-whole lease lease-of ((c .before .before .before .before .before .before .args) .s .now) (sym ((c .before .before .before .check-record) .ensures ∙ check-is lease lease-of ((c .before .before .before .before .before .before .args) .s .now)) ∙ (c .before .enum-told) .given .1)
+unfolding codesOf codeOf codes
+returns-2 c = let s = (c .before .before .before .before .before .before .args) .s .now in token-read s (token-placed s _ ((c .lease-token-at) .ensures) (sym ((c .before .before .before .check-record) .ensures ∙ token-checked s) ∙ (c .before .enum-told) .given .1))
 
 pub parse-token-spec : {M : Type 1} → statement M
 parse-token-spec =

@@ -1,16 +1,9 @@
-use Rattle.requests.proofs.Places.{last-number, name-then}
-use Rattle.image.specs.Shapes.{u64}
-use mathlib.Core.Path.{ap}
-use Rattle.requests.specs.Checked.{action-case}
 use borrow.Author.Needs.{needs}
 use Rattle.requests.proofs.release_at.Statement.{statement}
 use Rattle.requests.proofs.release_at.Tie as tie
 
-slice-aggregate-next : tie.Need-slice-aggregate-next
-slice-aggregate-next c = search needs
-
-next-requires : tie.Need-next-requires
-next-requires c κs = search needs
+after-name-requires : tie.Need-after-name-requires
+after-name-requires c κs = search needs
 
 text-place-requires : tie.Need-text-place-requires
 text-place-requires c κs = search needs
@@ -19,9 +12,8 @@ u64-at-requires : tie.Need-u64-at-requires
 u64-at-requires c κs = search needs
 
 returns : tie.Need-returns
-returns c = let s = (c .before .before .before .before .before .args) .s .now in ap (action-case 7 .make) (name-then s ((c .before .before .before .before .before .args) .at) ((c .before .before .next) .result) u64 ((c .before .text-place) .ensures) ((c .before .before .next) .ensures) (last-number s ((c .before .before .next) .result) ((c .u64-at) .ensures)))
+returns c = rw ((c .before .text-place) .ensures, (c .u64-at) .ensures, (c .before .before .after-name) .ensures)
 
 pub release-at-spec : {M : Type 1} → statement M
 release-at-spec =
-    tie.close
-    (tie.spec slice-aggregate-next next-requires text-place-requires u64-at-requires returns)
+    tie.close (tie.spec after-name-requires text-place-requires u64-at-requires returns)

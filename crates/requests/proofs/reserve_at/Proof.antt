@@ -1,29 +1,15 @@
-use Rattle.requests.proofs.Places.{key-then, name-then, number-then}
-use Rattle.image.specs.Shapes.{identity, identity-parts, key, u64}
-use Rattle.fields.specs.Format.{_▹_}
-use mathlib.Core.Path.{ap}
-use Rattle.requests.specs.Checked.{action-case}
 use borrow.Author.Needs.{needs}
 use Rattle.requests.proofs.reserve_at.Statement.{statement}
 use Rattle.requests.proofs.reserve_at.Tie as tie
 
-slice-aggregate-next : tie.Need-slice-aggregate-next
-slice-aggregate-next c = search needs
+after-name-requires : tie.Need-after-name-requires
+after-name-requires c κs = search needs
 
-next-requires : tie.Need-next-requires
-next-requires c κs = search needs
+after-number-requires : tie.Need-after-number-requires
+after-number-requires c κs = search needs
 
-slice-aggregate-next-2 : tie.Need-slice-aggregate-next-2
-slice-aggregate-next-2 c = search needs
-
-next-requires-2 : tie.Need-next-requires-2
-next-requires-2 c κs = search needs
-
-slice-aggregate-next-3 : tie.Need-slice-aggregate-next-3
-slice-aggregate-next-3 c = search needs
-
-next-requires-3 : tie.Need-next-requires-3
-next-requires-3 c κs = search needs
+after-key-requires : tie.Need-after-key-requires
+after-key-requires c κs = search needs
 
 text-place-requires : tie.Need-text-place-requires
 text-place-requires c κs = search needs
@@ -38,18 +24,15 @@ identity-at-requires : tie.Need-identity-at-requires
 identity-at-requires c κs = search needs
 
 returns : tie.Need-returns
-returns c = let s = (c .before .before .before .before .before .before .before .before .before .before .before .args) .s .now in ap (action-case 16 .make) (name-then s ((c .before .before .before .before .before .before .before .before .before .before .before .args) .at) ((c .before .before .before .before .before .before .before .before .next) .result) (u64 ▹ key ▹ identity) ((c .before .before .before .text-place) .ensures) ((c .before .before .before .before .before .before .before .before .next) .ensures) (number-then s ((c .before .before .before .before .before .before .before .before .next) .result) ((c .before .before .before .before .before .before .next2) .result) (key ▹ identity) ((c .before .before .u64-at) .ensures) ((c .before .before .before .before .before .before .next2) .ensures) (key-then s ((c .before .before .before .before .before .before .next2) .result) ((c .before .before .before .before .next3) .result) identity ((c .before .text-place2) .ensures) ((c .before .before .before .before .next3) .ensures) (ap identity-parts ((c .identity-at) .ensures)))))
+returns c = rw ((c .before .before .before .text-place) .ensures, (c .before .before .u64-at) .ensures, (c .before .text-place2) .ensures, (c .identity-at) .ensures, (c .before .before .before .before .after-key) .ensures, (c .before .before .before .before .before .after-number) .ensures, (c .before .before .before .before .before .before .after-name) .ensures)
 
 pub reserve-at-spec : {M : Type 1} → statement M
 reserve-at-spec =
     tie.close
     (tie.spec
-    slice-aggregate-next
-    next-requires
-    slice-aggregate-next-2
-    next-requires-2
-    slice-aggregate-next-3
-    next-requires-3
+    after-name-requires
+    after-number-requires
+    after-key-requires
     text-place-requires
     u64-at-requires
     text-place-requires-2

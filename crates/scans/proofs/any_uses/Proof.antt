@@ -9,35 +9,46 @@ use Rattle.fields.specs.Codes.{Code, codes, skip}
 use Rattle.fields.specs.Walks.{placeOf}
 use Rattle.tables.specs.Seek.{rows-at}
 use Rattle.scans.specs.Scans.{usesAt}
-use Rattle.scans.proofs.Steps.{scan-start, scan-end, scan-here, scan-on}
+use Rattle.scans.proofs.Steps.{scan-start, scan-end, scan-here, scan-on, uses-told}
+use Rattle.image.specs.CodeLists.{job-codes}
 use borrow.Author.Needs.{needs}
 use Rattle.scans.proofs.any_uses.Statement.{statement}
 use Rattle.scans.proofs.any_uses.Tie as tie
-use Rattle.image.specs.CodeLists.{job-codes}
 
 abbrev Inv-loop : tie.InvT-loop
-Inv-loop s at n key i₀ p₀ t i p = (i ≤ n) × (any (usesAt key) (rows-at (codes job) n (drop at s)) ≡ any (usesAt key) (rows-at (codes job) (n - i) (drop p s)))
+Inv-loop s at n key i₀ p₀ t7 t8 i p =
+    (i ≤ n) × (any (usesAt key) (rows-at (codes job) n (drop at s)) ≡ any (usesAt key) (rows-at (codes job) (n - i) (drop p s)))
 
 abbrev μ-loop : tie.MeasureT-loop
-μ-loop s at n key i₀ p₀ t i p = n - i
+μ-loop s at n key i₀ p₀ t7 t8 i p = n - i
 
 within-requires : tie.Need-within-requires Inv-loop μ-loop
 within-requires c κs = search needs
 
 loop-holds : tie.Need-loop-holds Inv-loop μ-loop
-loop-holds c = (zero-le, scan-start (usesAt ((c .before .before .before .args) .key .now)) (codes job) ((c .before .before .before .args) .s .now) ((c .before .before .before .args) .n) ((c .before .before .before .args) .at) _ ((c .within) .ensures))
+loop-holds c = let a = (c .before .before .before .args) in (zero-le, scan-start (usesAt (a .key .now)) (codes job) (a .s .now) (a .n) (a .at) _ ((c .within) .ensures))
+
+slice-aggregate-row-at : tie.Need-slice-aggregate-row-at Inv-loop μ-loop
+slice-aggregate-row-at c = search needs
+
+row-at-requires : tie.Need-row-at-requires Inv-loop μ-loop
+row-at-requires c κs = search needs
 
 job-uses-requires : tie.Need-job-uses-requires Inv-loop μ-loop
 job-uses-requires c κs = search needs
 
 returns : tie.Need-returns Inv-loop μ-loop
-returns c = sym ((c .before .before .before .loop) .inv .1 ∙ scan-here (usesAt ((c .before .before .before .before .before .before .before .args) .key .now)) (codes job) ((c .before .before .before .before .before .before .before .args) .s .now) ((c .before .before .before .before .before .before .before .args) .n) ((c .before .before .before .loop) .i) ((c .before .before .before .loop) .p) ((c .before .before .loop-test) .taken) (sym ((c .before .job-uses) .ensures) ∙ (c .if1) .taken))
+returns c =
+    let a = (c .before .before .before .before .before .before .before .before .before .args) in
+    let l = (c .before .before .before .before .before .loop) in
+    let t = uses-told _ (a .key .now) (drop (l .p) (a .s .now)) _ _ _ job-codes ((c .before .before .row-at) .ensures) ((c .before .job-uses) .ensures) ((c .if1) .taken) in
+    sym (l .inv .1 ∙ scan-here (usesAt (a .key .now)) (codes job) (a .s .now) (a .n) (l .i) (l .p) ((c .before .before .before .before .loop-test) .taken) t)
 
-slice-aggregate-skip-record : tie.Need-slice-aggregate-skip-record Inv-loop μ-loop
-slice-aggregate-skip-record c = search needs
+slice-aggregate-place-after : tie.Need-slice-aggregate-place-after Inv-loop μ-loop
+slice-aggregate-place-after c = search needs
 
-skip-record-requires : tie.Need-skip-record-requires Inv-loop μ-loop
-skip-record-requires c κs = search needs
+place-after-requires : tie.Need-place-after-requires Inv-loop μ-loop
+place-after-requires c κs = search needs
 
 add-i : tie.Need-add-i Inv-loop μ-loop
 add-i c = search needs
@@ -46,10 +57,18 @@ loop-less : tie.Need-loop-less Inv-loop μ-loop
 loop-less c = search needs
 
 loop-again : tie.Need-loop-again Inv-loop μ-loop
-loop-again c = (omega arith, (c .before .before .before .before .before .loop) .inv .1 ∙ scan-on (usesAt ((c .before .before .before .before .before .before .before .before .before .args) .key .now)) (codes job) ((c .before .before .before .before .before .before .before .before .before .args) .s .now) ((c .before .before .before .before .before .before .before .before .before .args) .n) ((c .before .before .before .before .before .loop) .i) ((c .before .before .before .before .before .loop) .p) _ ((c .before .before .before .before .loop-test) .taken) (sym ((c .before .before .before .job-uses) .ensures) ∙ (c .before .before .if1) .left) ((c .skip-record) .ensures ∙ ap (λ (cs : List Code). placeOf ((c .before .before .before .before .before .before .before .before .before .args) .s .now) (skip 0 cs (drop ((c .before .before .before .before .before .loop) .p) ((c .before .before .before .before .before .before .before .before .before .args) .s .now)))) job-codes))
+loop-again c =
+    let a = (c .before .before .before .before .before .before .before .before .before .before .before .args) in
+    let l = (c .before .before .before .before .before .before .before .loop) in
+    let t = uses-told _ (a .key .now) (drop (l .p) (a .s .now)) _ _ _ job-codes ((c .before .before .before .before .row-at) .ensures) ((c .before .before .before .job-uses) .ensures) ((c .before .before .if1) .left) in
+    let e = (c .place-after) .ensures ∙ ap (λ (cs : List Code). placeOf (a .s .now) (skip 0 cs (drop (l .p) (a .s .now)))) job-codes in
+    (omega arith, l .inv .1 ∙ scan-on (usesAt (a .key .now)) (codes job) (a .s .now) (a .n) (l .i) (l .p) _ ((c .before .before .before .before .before .before .loop-test) .taken) t e)
 
 returns-2 : tie.Need-returns-2 Inv-loop μ-loop
-returns-2 c = sym ((c .before .loop) .inv .1 ∙ scan-end (usesAt ((c .before .before .before .before .before .args) .key .now)) (codes job) ((c .before .before .before .before .before .args) .s .now) ((c .before .before .before .before .before .args) .n) ((c .before .loop) .i) ((c .before .loop) .p) ((c .loop-test) .left))
+returns-2 c =
+    let a = (c .before .before .before .before .before .args) in
+    let l = (c .before .loop) in
+    sym (l .inv .1 ∙ scan-end (usesAt (a .key .now)) (codes job) (a .s .now) (a .n) (l .i) (l .p) ((c .loop-test) .left))
 
 pub any-uses-spec : {M : Type 1} → statement M
 any-uses-spec =
@@ -59,10 +78,12 @@ any-uses-spec =
     μ-loop
     within-requires
     loop-holds
+    slice-aggregate-row-at
+    row-at-requires
     job-uses-requires
     returns
-    slice-aggregate-skip-record
-    skip-record-requires
+    slice-aggregate-place-after
+    place-after-requires
     add-i
     loop-less
     loop-again

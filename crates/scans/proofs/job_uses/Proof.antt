@@ -16,7 +16,7 @@ same-requires : tie.Need-same-requires
 same-requires c κs = search needs
 
 returns : tie.Need-returns
-returns c = uses-first ((c .before .before .before .before .before .before .before .args) .key .now) ((c .before .before .before .before .before .before .before .args) .s .now) _ ((c .before .before .before .before .before .before .before .args) .p) _ _ ((c .before .before .before .skip-record) .ensures) ((c .before .before .text-at) .ensures) ((c .before .same) .ensures) ((c .if1) .taken)
+returns c = uses-first ((c .before .before .before .before .before .before .before .args) .key .now) ((c .before .before .before .before .before .before .before .args) .job .now) _ _ _ ((c .before .before .before .skip-record) .ensures) ((c .before .before .text-at) .ensures) ((c .before .same) .ensures) ((c .if1) .taken)
 
 slice-aggregate-skip-record-2 : tie.Need-slice-aggregate-skip-record-2
 slice-aggregate-skip-record-2 c = search needs
@@ -31,7 +31,7 @@ starts-with-requires : tie.Need-starts-with-requires
 starts-with-requires c κs = search needs
 
 returns-2 : tie.Need-returns-2
-returns-2 c = uses-second ((c .before .before .before .before .before .before .before .before .before .before .before .args) .key .now) ((c .before .before .before .before .before .before .before .before .before .before .before .args) .s .now) _ ((c .before .before .before .before .before .before .before .before .before .before .before .args) .p) _ _ ((c .before .before .before .before .before .before .before .skip-record) .ensures) ((c .before .before .before .before .before .before .text-at) .ensures) ((c .before .before .before .before .before .same) .ensures) ((c .before .before .before .before .if1) .left) _ _ _ ((c .before .before .skip-record2) .ensures) ((c .before .text-at2) .ensures) ((c .starts-with) .ensures)
+returns-2 c = uses-second ((c .before .before .before .before .before .before .before .before .before .before .before .args) .key .now) ((c .before .before .before .before .before .before .before .before .before .before .before .args) .job .now) _ _ _ ((c .before .before .before .before .before .before .before .skip-record) .ensures) ((c .before .before .before .before .before .before .text-at) .ensures) ((c .before .before .before .before .before .same) .ensures) ((c .before .before .before .before .if1) .left) _ _ _ ((c .before .before .skip-record2) .ensures) ((c .before .text-at2) .ensures) ((c .starts-with) .ensures)
 
 pub job-uses-spec : {M : Type 1} → statement M
 job-uses-spec =

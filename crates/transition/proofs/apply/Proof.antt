@@ -36,10 +36,10 @@ enum-known-p-2 : tie.Need-enum-known-p-2
 enum-known-p-2 c = search needs
 
 apply-request-requires : tie.Need-apply-request-requires
-apply-request-requires c κs = asked-of ((c .before .before .before .before .before .before .before .before .before .before .before .before .before .before .args) .image .now) ((c .before .before .before .before .before .before .before .before .before .before .before .before .before .before .args) .request .now) _ _ (λ i. omega (arith, (c .before .before .before .before .before .before .before .before .before .before .before .before .before .shared-slice-known) .given i)) (λ i. omega (arith, (c .before .before .before .before .before .before .before .before .before .before .before .before .shared-slice-known2) .given i)) (sym ((c .before .before .before .before .before .before .before .o) .given .1) ∙ (c .before .before .before .before .before .before .before .before .before .«open») .ensures) (ap (parsedOf ((c .before .before .before .before .before .before .before .before .before .before .before .before .before .before .args) .request .now)) (sym ((c .before .before .before .p2) .given .1)) ∙ (c .before .before .before .before .before .parse) .ensures)
+apply-request-requires c κs = asked-of ((c .before .before .before .before .before .before .before .before .before .before .before .before .before .before .args) .image .now) ((c .before .before .before .before .before .before .before .before .before .before .before .before .before .before .args) .request .now) _ _ (λ i. omega (arith, (c .before .before .before .before .before .before .before .before .before .before .before .before .before .shared-slice-known) .given i)) (λ i. omega (arith, (c .before .before .before .before .before .before .before .before .before .before .before .before .shared-slice-known2) .given i)) (sym ((c .before .before .before .before .before .before .before .o) .given .1) ∙ (c .before .before .before .before .before .before .before .before .before .«open») .ensures) (ap (parsedOf ((c .before .before .before .before .before .before .before .before .before .before .before .before .before .before .args) .request .now)) (sym ((c .before .before .before .p2) .given .1)) ∙ (c .before .before .before .before .before .parse) .ensures .0) (sym ((c .before .before .before .p2) .given .1) ∙ (c .before .before .before .before .before .parse) .ensures .1)
 
 returns-2 : tie.Need-returns-2
-returns-2 c = let g = no-request ((c .before .before .before .before .before .before .before .before .before .before .before .before .before .args) .image .now) ((c .before .before .before .before .before .before .before .before .before .before .before .before .before .args) .request .now) _ _ (opened-state (decodeImage ((c .before .before .before .before .before .before .before .before .before .before .before .before .before .args) .image .now)) _ (sym ((c .before .before .before .before .before .before .o) .given .1) ∙ (c .before .before .before .before .before .before .before .before .«open») .ensures) .1) (sym (ap (parsedOf ((c .before .before .before .before .before .before .before .before .before .before .before .before .before .args) .request .now)) (sym ((c .before .before .p) .given .1)) ∙ (c .before .before .before .before .parse) .ensures)) ((c .refuse2) .ensures) in (g .answer, (g .image, g .outcome))
+returns-2 c = let g = no-request ((c .before .before .before .before .before .before .before .before .before .before .before .before .before .args) .image .now) ((c .before .before .before .before .before .before .before .before .before .before .before .before .before .args) .request .now) _ _ (opened-state (decodeImage ((c .before .before .before .before .before .before .before .before .before .before .before .before .before .args) .image .now)) _ (sym ((c .before .before .before .before .before .before .o) .given .1) ∙ (c .before .before .before .before .before .before .before .before .«open») .ensures) .1) (sym (ap (parsedOf ((c .before .before .before .before .before .before .before .before .before .before .before .before .before .args) .request .now)) (sym ((c .before .before .p) .given .1)) ∙ (c .before .before .before .before .parse) .ensures .0)) ((c .refuse2) .ensures) in (g .answer, (g .image, g .outcome))
 
 same-length : tie.Need-same-length
 same-length c = search needs

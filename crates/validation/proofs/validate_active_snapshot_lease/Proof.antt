@@ -29,10 +29,10 @@ enum-known-p-2 : tie.Need-enum-known-p-2
 enum-known-p-2 c = search needs
 
 validate-opened-requires : tie.Need-validate-opened-requires
-validate-opened-requires c κs = ready-token ((c .before .before .before .before .before .before .before .before .before .before .args) .image .now) ((c .before .before .before .before .before .before .before .before .before .before .args) .token .now) _ _ (λ i. omega (arith, (c .before .before .before .before .before .before .before .before .before .shared-slice-known) .given i)) (λ i. omega (arith, (c .before .before .before .before .before .before .before .before .shared-slice-known2) .given i)) (sym ((c .before .before .before .before .before .o) .given .1) ∙ (c .before .before .before .before .before .before .before .«open») .ensures) (ap (tokenReadOf ((c .before .before .before .before .before .before .before .before .before .before .args) .token .now)) (sym ((c .before .p2) .given .1)) ∙ (c .before .before .before .parse-token) .ensures)
+validate-opened-requires c κs = ready-token ((c .before .before .before .before .before .before .before .before .before .before .args) .image .now) ((c .before .before .before .before .before .before .before .before .before .before .args) .token .now) _ _ (λ i. omega (arith, (c .before .before .before .before .before .before .before .before .before .shared-slice-known) .given i)) (λ i. omega (arith, (c .before .before .before .before .before .before .before .before .shared-slice-known2) .given i)) (sym ((c .before .before .before .before .before .o) .given .1) ∙ (c .before .before .before .before .before .before .before .«open») .ensures) (ap (tokenReadOf ((c .before .before .before .before .before .before .before .before .before .before .args) .token .now)) (sym ((c .before .p2) .given .1)) ∙ (c .before .before .before .parse-token) .ensures .0)
 
 returns-2 : tie.Need-returns-2
-returns-2 c = not-a-token ((c .before .before .before .before .before .before .before .before .before .before .args) .image .now) ((c .before .before .before .before .before .before .before .before .before .before .args) .token .now) _ _ (opened-state (decodeImage ((c .before .before .before .before .before .before .before .before .before .before .args) .image .now)) _ (sym ((c .before .before .before .before .before .o) .given .1) ∙ (c .before .before .before .before .before .before .before .«open») .ensures) .1) (sym (ap (tokenReadOf ((c .before .before .before .before .before .before .before .before .before .before .args) .token .now)) (sym ((c .before .p) .given .1)) ∙ (c .before .before .before .parse-token) .ensures))
+returns-2 c = not-a-token ((c .before .before .before .before .before .before .before .before .before .before .args) .image .now) ((c .before .before .before .before .before .before .before .before .before .before .args) .token .now) _ _ (opened-state (decodeImage ((c .before .before .before .before .before .before .before .before .before .before .args) .image .now)) _ (sym ((c .before .before .before .before .before .o) .given .1) ∙ (c .before .before .before .before .before .before .before .«open») .ensures) .1) (sym (ap (tokenReadOf ((c .before .before .before .before .before .before .before .before .before .before .args) .token .now)) (sym ((c .before .p) .given .1)) ∙ (c .before .before .before .parse-token) .ensures .0))
 
 returns-3 : tie.Need-returns-3
 returns-3 c = search needs
