@@ -1,5 +1,5 @@
-// A reader that carries the image and a position, and walks the records of a table. Its functions are thin: each takes
-// the reader apart, and leaves the work to a function of a plain slice and a number.
+// A reader that carries the image and a position, and walks the records of a table. Its functions are thin: each makes a
+// reader or takes it apart, and leaves the work to a function of a plain slice and a number.
 ghost use mathlib.Core.Path.{_≡_};
 ghost use lib.ListN.{drop};
 ghost use Rattle.fields.specs.Codes.{skip, codesOf};

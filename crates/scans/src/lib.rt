@@ -41,7 +41,7 @@ fn job_uses(job: &[u8], key: &[u8]) -> bool
     )
 }
 
-// Whether one of n jobs uses the key: a reader walks them, and each is read by its own bytes.
+// Whether one of n jobs uses the key: a reader goes from each to the next, and each is read by its own bytes.
 pub fn any_uses(s: &[u8], at: usize, n: usize, key: &[u8]) -> bool
     ensures { λ r. ⌜ r ≡ any (usesAt (now (key .entry))) (rows-at (codes job) n (drop at (now (s .entry)))) ⌝ }
 {
