@@ -39,13 +39,31 @@ pub fn apply(image: &[u8], request: &[u8], lent: &mut Lent) -> (u32, usize, usiz
     (status, n, m)
 }
 
+/// The Rust's `apply` with the ended leases in the library's order: by deadline, then epoch, then id. The Rust lists them
+/// by id, and a sort that keeps equal ones as they stand compares no id.
+fn rust_apply_to(state: &mut PublicationAuthorityState, request: &Request) -> PublicationTransition {
+    let ended = match request.action {
+        PublicationAction::AdvanceLeaseClock { next_tick, .. } => {
+            let ended = state.leases.values().filter(|lease| lease.deadline_tick <= next_tick);
+            ended.map(|lease| (lease.deadline_tick, lease.lease_epoch)).collect()
+        }
+        _ => vec![],
+    };
+    let mut t = state.apply(&request.action, request.context, PublicationAuthorityFaults::default());
+    if let Some(PublicationOutcome::LeasesExpired { lease_ids }) = &mut t.outcome {
+        let mut rows: Vec<_> = ended.into_iter().zip(std::mem::take(lease_ids)).collect();
+        rows.sort_by_key(|(row, _)| *row);
+        *lease_ids = rows.into_iter().map(|(_, id)| id).collect();
+    }
+    t
+}
+
 /// The Rust's job on the same bytes. Where it accepts, it fills both slices.
 pub fn rust_apply(image: &[u8], request: &[u8], next: &mut Vec<u8>, outcome: &mut Vec<u8>) -> u32 {
     next.clear();
     outcome.clear();
     let mut state: PublicationAuthorityState = Reader(image).get();
-    let Request { context, action, .. } = Reader(request).get();
-    let t = state.apply(&action, context, PublicationAuthorityFaults::default());
+    let t = rust_apply_to(&mut state, &Reader(request).get());
     if let Some(o) = t.outcome {
         state.write(next);
         o.write(outcome);
@@ -64,6 +82,6 @@ pub fn rust_step(
     request: &Request,
 ) -> (PublicationAuthorityState, PublicationTransition) {
     let mut next = state.clone();
-    let t = next.apply(&request.action, request.context, PublicationAuthorityFaults::default());
+    let t = rust_apply_to(&mut next, request);
     (next, t)
 }

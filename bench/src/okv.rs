@@ -144,6 +144,23 @@ impl Column {
         .map(|(title, name, size)| Column::measure(title, name, size, lent, meter))
     }
 
+    /// Clock steps that end all of so many leases.
+    fn ends(lent: &mut Lent, meter: &mut Meter) -> [Column; 6] {
+        [
+            ("1 lease", early as Name, 1),
+            ("4 leases", early, 4),
+            ("16 leases", early, 16),
+            ("64 leases", early, 64),
+            ("16, alike", late, 16),
+            ("64, alike", late, 64),
+        ]
+        .map(|(title, name, leases)| {
+            let state = states::state(name, Size { leases, ..SMALL });
+            let rows = states::ends(&state).map(|case| (case.name, apply_of(&case, title, lent, meter)));
+            Column { title, bytes: bytes(&state).len(), rows: rows.into() }
+        })
+    }
+
     fn take_less(&mut self, again: &Column) {
         for ((_, costs), (_, others)) in self.rows.iter_mut().zip(&again.rows) {
             costs.okv = costs.okv.min(others.okv);
@@ -170,6 +187,17 @@ fn table(heading: &str, columns: &[&Column], cell: impl Fn(&Column, &Costs) -> S
         }
         println!();
     }
+}
+
+/// What the calls cost, alone and beside the Rust.
+fn beside(which: &str, unit: &str, columns: &[&Column]) {
+    table(&format!("{which}{unit} a call."), columns, |_, c| format!("{:.0}", c.okv));
+    table(&format!("{which}Ratio to the Rust on the same bytes: decode, apply, encode."), columns, |_, c| {
+        format!("{:.2}", c.okv / c.bytes)
+    });
+    table(&format!("{which}Ratio to the Rust on its state in memory: clone, apply."), columns, |_, c| {
+        format!("{:.2}", c.okv / c.memory)
+    });
 }
 
 /// Where the time goes, of the calls that take more than half of the Rust's.
@@ -201,9 +229,12 @@ fn main() {
     };
     let lent = &mut Lent { next: [0; 65535], outcome: [0; 8192] };
     let mut columns = Column::all(lent, &mut meter);
+    let mut ends = Column::ends(lent, &mut meter);
     for _ in 1..passes {
         let again = Column::all(lent, &mut meter);
         columns.iter_mut().zip(&again).for_each(|(column, other)| column.take_less(other));
+        let again = Column::ends(lent, &mut meter);
+        ends.iter_mut().zip(&again).for_each(|(column, other)| column.take_less(other));
     }
     if matches!(meter, Meter::Marks) {
         return;
@@ -211,16 +242,14 @@ fn main() {
     let [kinds @ .., keys4, keys2, rows4, rows2] = &columns;
     let [_, _, _, keys, rows, ..] = kinds;
     let kinds: Vec<&Column> = kinds.iter().collect();
+    let ends: Vec<&Column> = ends.iter().collect();
     let sizes = [keys4, keys2, keys, rows4, rows2, rows];
-    table(&format!("{unit} a call."), &kinds, |_, c| format!("{:.0}", c.okv));
-    table("Ratio to the Rust on the same bytes: decode, apply, encode.", &kinds, |_, c| {
-        format!("{:.2}", c.okv / c.bytes)
-    });
-    table("Ratio to the Rust on its state in memory: clone, apply.", &kinds, |_, c| format!("{:.2}", c.okv / c.memory));
+    beside("", unit, &kinds);
+    beside("All leases end, and the Rust puts its list in the same order. ", unit, &ends);
     table(&format!("{unit} a byte of the image, as it grows."), &sizes, |column, c| {
         format!("{:.3}", c.okv / column.bytes as f64)
     });
     if matches!(meter, Meter::Counts(_)) {
-        dear(&kinds);
+        dear(&[kinds, ends].concat());
     }
 }

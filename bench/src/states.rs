@@ -170,6 +170,29 @@ pub fn state(name: Name, size: Size) -> PublicationAuthorityState {
     s
 }
 
+/// Numbers of 32 bits in no order.
+fn mixed(i: u64) -> u64 {
+    let x = (i + 1).wrapping_mul(0x9E37_79B9_7F4A_7C15);
+    (x ^ x >> 30).wrapping_mul(0xBF58_476D_1CE4_E5B9) >> 32
+}
+
+/// Clock steps that end all leases, whose deadlines ascend with their ids, descend, or are mixed.
+pub fn ends(s: &PublicationAuthorityState) -> [Case; 3] {
+    let deadlines: [(&'static str, fn(u64) -> u64); 3] = [
+        ("all leases end, ascending", |i| 1000 + i),
+        ("all leases end, descending", |i| 1000 - i),
+        ("all leases end, mixed", mixed),
+    ];
+    deadlines.map(|(name, deadline)| {
+        let mut state = s.clone();
+        for (i, lease) in (0..).zip(state.leases.values_mut()) {
+            lease.deadline_tick = deadline(i);
+        }
+        let action = PublicationAction::AdvanceLeaseClock { expected_tick: s.lease_clock_tick, next_tick: u64::MAX };
+        Case { name, state, request: Request { context: CONTEXT, faults: 0, action } }
+    })
+}
+
 /// A call that is measured: on which state, and what it asks.
 pub struct Case {
     pub name: &'static str,

@@ -44,7 +44,7 @@ impl Gen {
     }
 
     /// None, each alone, all together, or some.
-    fn faults(&mut self, flags: Flags) -> PublicationAuthorityFaults {
+    pub fn faults(&mut self, flags: Flags) -> PublicationAuthorityFaults {
         let bits = match (flags, self.rng.below(4)) {
             (Flags::Off, _) | (_, 0) => 0,
             (_, 1) => 1 << self.rng.index(FLAGS),

@@ -1,6 +1,7 @@
 //! How often each answer came, and which answers must come.
 use crate::decode::Fault::{self, *};
-use crate::decode::{Read, Request};
+use crate::decode::{self, Read, Request};
+use crate::expiry::{Neighbours, NEIGHBOURS};
 use crate::oracle::{self, Answer};
 use crate::{encode, limits};
 use okv_publication::{PublicationAuthorityState, SnapshotLeaseToken};
@@ -45,6 +46,9 @@ pub struct Counts {
     pub test: BTreeMap<u32, u64>,
     pub default: BTreeMap<u32, u64>,
     pub outcomes: [u64; 7],
+    /// Lists of ended leases, by how many they are and by what stands side by side in them.
+    pub ended: BTreeMap<usize, u64>,
+    pub neighbours: BTreeMap<Neighbours, u64>,
     /// By action and status, of requests that can be read.
     pub actions: BTreeMap<(u8, u32), u64>,
     /// By kind of input and its first fault.
@@ -85,7 +89,12 @@ impl Counts {
         }
     }
 
-    pub fn applied(&mut self, request: &Read<Request>, answer: &Answer) {
+    pub fn applied(
+        &mut self,
+        state: &Read<PublicationAuthorityState>,
+        request: &Read<Request>,
+        answer: &Answer,
+    ) {
         *self.apply.entry(answer.status).or_default() += 1;
         if let Some(outcome) = answer.outcome.first() {
             self.outcomes[*outcome as usize] += 1;
@@ -93,6 +102,18 @@ impl Counts {
         if let Ok(request) = request {
             let action = encode::action_byte(&request.action);
             *self.actions.entry((action, answer.status)).or_default() += 1;
+        }
+        if let (Ok(state), Some(lease_ids)) = (state, decode::ended(&answer.outcome)) {
+            self.ended(&lease_ids, state);
+        }
+    }
+
+    fn ended(&mut self, lease_ids: &[String], before: &PublicationAuthorityState) {
+        *self.ended.entry(lease_ids.len()).or_default() += 1;
+        for neighbours in NEIGHBOURS {
+            if neighbours.are_in(lease_ids, before) {
+                *self.neighbours.entry(neighbours).or_default() += 1;
+            }
         }
     }
 
@@ -131,6 +152,8 @@ impl Counts {
     pub fn print(&self) {
         println!("apply: {:?}", self.apply);
         println!("outcomes: {:?}", self.outcomes);
+        let fewest = self.ended.iter().min_by_key(|(_, count)| **count);
+        println!("rarest number of ended leases: {fewest:?}, neighbours: {:?}", self.neighbours);
         println!("validate: {:?}, {} of ended leases", self.validate, self.used_anew);
         println!("test: {:?}, default: {:?}", self.test, self.default);
         let rarest = self.actions.iter().min_by_key(|(_, count)| **count);
@@ -161,6 +184,10 @@ impl Counts {
         for (outcome, count) in self.outcomes.iter().enumerate() {
             must(*count > 0, format!("outcome {outcome}"));
         }
+        for neighbours in NEIGHBOURS {
+            let came = self.neighbours.contains_key(&neighbours);
+            must(came, format!("{neighbours:?} among ended leases"));
+        }
         for pair in every_status() {
             must(self.actions.contains_key(&pair), format!("status {} of action {}", pair.1, pair.0));
         }
@@ -184,6 +211,11 @@ impl Counts {
                 if !self.lengths.contains_key(&(of, length)) {
                     missing.push(format!("a next image of {length} bytes in {of}"));
                 }
+            }
+        }
+        for ended in 2..=limits::TABLES[4] {
+            if !self.ended.contains_key(&ended) {
+                missing.push(format!("{ended} ended leases"));
             }
         }
         if !self.steps.contains_key(&45) {

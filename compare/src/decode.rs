@@ -1,4 +1,5 @@
-//! Images, requests and tokens read from any bytes, written from the text of document 01 and from nothing else.
+//! Images, requests and tokens read from any bytes, written from the text of document 01 and from nothing else; and the
+//! ended leases of an outcome.
 use crate::limits::*;
 use crate::permit::permit;
 use okv_publication::*;
@@ -117,6 +118,13 @@ pub fn image(bytes: &[u8]) -> Read<PublicationAuthorityState> {
         Ok((job.job_id.clone(), job))
     })?;
     Ok(state)
+}
+
+/// The ids of a good outcome `LeasesExpired` as they stand there, in any order; none of another outcome.
+pub fn ended(outcome: &[u8]) -> Option<Vec<String>> {
+    let ids = outcome.strip_prefix(&[4])?;
+    let ids = whole(ids, |r| (0..r.byte()?).map(|_| r.text(TEXT)).collect());
+    Some(ids.expect("ids and nothing after them"))
 }
 
 /// One value and nothing after it.

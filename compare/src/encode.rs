@@ -181,6 +181,7 @@ impl Encoded {
         }
     }
 
+    /// A set, or a list of ids in its own order.
     fn set<'a, I>(&mut self, members: I, most: usize)
     where
         I: IntoIterator<Item = &'a String>,

@@ -37,7 +37,7 @@ impl Held {
                 let (image, request) = (image.to_vec(), request.to_vec());
                 self.differs(Call::Apply { image, request, room, outcome_room });
             }
-            self.counts.applied(&read, &want);
+            self.counts.applied(&state, &read, &want);
         }
         if let Transition::Accepted { next, .. } = &transition {
             self.counts.length("apply", next.len(), IMAGE);

@@ -11,6 +11,7 @@ mod counts;
 mod damage;
 mod decode;
 mod encode;
+mod expiry;
 mod held;
 mod library;
 mod limits;

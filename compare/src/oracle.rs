@@ -1,6 +1,6 @@
-//! What document 01 and the Rust answer to a call over bytes.
+//! What documents 01 and 02 and the Rust answer to a call over bytes.
 use crate::decode::{self, Read, Request};
-use crate::{encode, limits};
+use crate::{encode, expiry, limits};
 use okv_publication::*;
 
 /// The status, and what was written; nothing after a refusal.
@@ -58,6 +58,7 @@ pub fn transition(state: &Read<PublicationAuthorityState>, request: &Read<Reques
     if limits::over(&next).is_some() {
         return Transition::Refused(44);
     }
+    let outcome = expiry::in_order(outcome, state);
     let (bytes, outcome) = (encode::image(&next).bytes, encode::outcome(&outcome).bytes);
     Transition::Accepted { state: next, next: bytes, outcome }
 }

@@ -1,4 +1,4 @@
-//! The runs: histories, full tables, full images, damaged bytes, and okvstep. A seed gives one run.
+//! The runs: histories, full tables, leases that end, full images, damaged bytes, and okvstep. A seed gives one run.
 use crate::actions::{plain, Flags, ACTIONS};
 use crate::aim::damaged;
 use crate::counts::{all_came, grown_by};
@@ -47,7 +47,10 @@ fn one(held: &mut Held, run: u64) {
         0 => history(held, g, PublicationAuthorityState::default(), 300),
         1 => built(held, g, 20, false),
         2 => built(held, g, 5, true),
-        3 => tables(held, g),
+        3 => {
+            tables(held, g);
+            expiries(held, g);
+        }
         4 => lengths(held, g),
         5 | 6 => damage(held, g),
         _ => steps(held, g),
@@ -62,7 +65,7 @@ fn history(held: &mut Held, g: &mut Gen, mut state: PublicationAuthorityState, l
         held.step += 1;
         let image = encode::image(&state).bytes;
         let request = encode::request(&g.request(&state, flags)).bytes;
-        let lend = if g.rng.one_in(4) { Lend::Tight } else { Lend::Ample };
+        let lend = lend(g);
         if let Some(next) = held.apply(&image, &request, lend) {
             state = next;
         }
@@ -72,6 +75,15 @@ fn history(held: &mut Held, g: &mut Gen, mut state: PublicationAuthorityState, l
         if let Some(token) = tokens.pick(held, g, &state) {
             held.validate(&image, &encode::token(&token).bytes);
         }
+    }
+}
+
+/// Now and then each room around what is needed.
+fn lend(g: &mut Gen) -> Lend {
+    if g.rng.one_in(4) {
+        Lend::Tight
+    } else {
+        Lend::Ample
     }
 }
 
@@ -145,6 +157,17 @@ fn tables(held: &mut Held, g: &mut Gen) {
                 }
             }
         }
+    }
+}
+
+/// Clock steps that end each number of leases, none to all.
+fn expiries(held: &mut Held, g: &mut Gen) {
+    g.shape = g.rng.pick(&[g.shape, LONG]);
+    for ended in 0..=TABLES[4] {
+        held.step += 1;
+        let (state, request) = g.expiry(ended);
+        let (image, request) = (encode::image(&state).bytes, encode::request(&request).bytes);
+        held.apply(&image, &request, lend(g));
     }
 }
 

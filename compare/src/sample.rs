@@ -15,6 +15,7 @@
 use crate::actions::{plain, Flags, ACTIONS};
 use crate::counts::{all_came, every_status, faults_of, grown_by, Counts, Input};
 use crate::decode::{self, Fault, Request};
+use crate::expiry::NEIGHBOURS;
 use crate::limits::*;
 use crate::oracle::{self, Answer, Transition};
 use crate::states::{fillings, Fill};
@@ -44,6 +45,7 @@ pub fn write(folder: &Path) -> std::io::Result<bool> {
     sample.validations();
     sample.faults();
     sample.limits();
+    sample.expiries();
     println!("{} cases in {} bytes", sample.cases, sample.stdin.len());
     sample.counts.print();
     let complete = all_came(&sample.counts.missing_answers());
@@ -95,7 +97,7 @@ impl Sample {
         let transition = oracle::transition(&state, &read);
         let answer = transition.answer(room, outcome_room);
         self.counts.read(&state, &read);
-        self.counts.applied(&read, &answer);
+        self.counts.applied(&state, &read, &answer);
         self.case(1, format!("apply {}", answer.status));
         self.bytes(request);
         self.number(room);
@@ -335,6 +337,17 @@ impl Sample {
         let token = encode::token(&search(0, |g| Some(g.token(&state)))).bytes;
         self.no_image(&grow(1), &token);
     }
+
+    /// Ended leases with all that can stand side by side, each as small as can be, and 64 with all of it.
+    fn expiries(&mut self) {
+        for neighbours in NEIGHBOURS {
+            let has = |scene: &Scene| neighbours.are_in(&ended_of(scene), &scene.0);
+            let scene = search(0, |g| Some(g.expiry(2)).filter(has));
+            self.play(&shrink::value(scene, |scene| has_image(&scene.0) && has(scene)));
+        }
+        let all = |scene: &Scene| NEIGHBOURS.iter().all(|n| n.are_in(&ended_of(scene), &scene.0));
+        self.play(&search(0, |g| Some(g.expiry(TABLES[4])).filter(all)));
+    }
 }
 
 /// Draws until there is what is looked for.
@@ -347,6 +360,11 @@ fn search<T>(start: usize, mut draw: impl FnMut(&mut Gen) -> Option<T>) -> T {
 /// Whether each record stands under the id inside it and all is within the limits.
 fn has_image(state: &PublicationAuthorityState) -> bool {
     decode::image(&encode::image(state).bytes).as_ref() == Ok(state)
+}
+
+/// The leases that a clock step ends, in the order of its outcome; none where it is refused or another action.
+fn ended_of(scene: &Scene) -> Vec<String> {
+    decode::ended(&answer_of(scene).outcome).unwrap_or_default()
 }
 
 fn answer_of((state, request): &Scene) -> Answer {

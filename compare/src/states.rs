@@ -61,7 +61,7 @@ impl Gen {
     }
 
     /// So many records. Where the pool of ids is too small for them it is made larger.
-    fn table<T>(
+    pub fn table<T>(
         &mut self,
         size: usize,
         mut record: impl FnMut(&mut Self) -> (String, T),

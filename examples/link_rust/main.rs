@@ -1,7 +1,7 @@
 //! Steps the authority through libokv.a by the frames of standard input, which `tools/okv frames SCRIPT` writes. Prints
-//! a line for each frame: its step, the number answered, the lengths of image and outcome, and what validation says of
-//! the newest lease token (41 while there is none). Writes the last image and outcome to the two files that its arguments
-//! name.
+//! a line for each frame: its step, the number answered, the lengths of image and outcome, what validation says of the
+//! newest lease token (41 while there is none), and the leases that ended, in the order in which they ran out. Writes the
+//! last image and outcome to the two files that its arguments name.
 use std::io::Read;
 
 /// The functions of include/okv.h over slices. An error is the number of the refusal.
@@ -48,6 +48,18 @@ fn next_frame(frames: &[u8]) -> Option<(&[u8], &[u8])> {
     rest.split_at_checked(u32::from_le_bytes(*size) as usize)
 }
 
+/// The ids of outcome 4, LeasesExpired, as they stand: that byte, their count, and each after its length.
+fn ended(outcome: &[u8]) -> Vec<String> {
+    let [4, _, rest @ ..] = outcome else { return vec![] };
+    let (mut rest, mut ids) = (rest, vec![]);
+    while let Some((length, after)) = rest.split_first() {
+        let (id, after) = after.split_at(usize::from(*length));
+        ids.push(String::from_utf8_lossy(id).into_owned());
+        rest = after;
+    }
+    ids
+}
+
 fn number<T>(answer: Result<T, u32>) -> u32 {
     answer.err().unwrap_or(0)
 }
@@ -60,7 +72,7 @@ fn main() -> std::io::Result<()> {
     let mut input = vec![];
     std::io::stdin().read_to_end(&mut input)?;
     let (mut frames, mut step) = (&input[..], 0);
-    println!("step status image outcome token");
+    println!("step status image outcome token ended");
     while let Some((request, rest)) = next_frame(frames) {
         (frames, step) = (rest, step + 1);
         let answer = okv::apply(&image, request, &mut next, &mut outcome);
@@ -72,7 +84,8 @@ fn main() -> std::io::Result<()> {
             }
         }
         let (n, m) = answer.unwrap_or((0, 0));
-        println!("{step} {} {n} {m} {}", number(answer), number(okv::validate(&image, &token)));
+        let numbers = format!("{step} {} {n} {m} {}", number(answer), number(okv::validate(&image, &token)));
+        println!("{}", [vec![numbers], ended(&outcome[..m])].concat().join(" "));
     }
     let mut paths = std::env::args().skip(1);
     std::fs::write(paths.next().expect("a path for the image"), image)?;

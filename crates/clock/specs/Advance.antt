@@ -1,20 +1,21 @@
 -- AdvanceLeaseClock: its answers, and the contents that show its next state.
-use Prim.Native.Nat.{ℕ, _+_, _-_, _%_, _≤_, _<_}
+use Prim.Native.Nat.{ℕ, _+_, _-_, _≤_, _<_}
 use native.Mathlib.Omega.{arith}
 use mathlib.Core.Bool.{Bool, cond}
-use mathlib.Core.List.{List, [], _∷_, _++_, append-assoc}
+use mathlib.Core.List.{List, [], _∷_, _++_, map, append-assoc}
 use mathlib.Core.Path.{_≡_, refl, sym, ap, _∙_, subst}
 use lib.Dec.{eqb}
 use lib.ListN.{length, drop, length-append}
 use borrow.Author.Tests.{eq-eqb, ne-eqb, le-leb, lt-leb}
-use Rattle.parts.specs.Digits.{digits}
 use Rattle.parts.specs.Gather.{run, gatherOf}
-use Rattle.state.specs.Maps.{Text, Map, _⟼_, key-of, keys-where, remove-all}
+use Rattle.state.specs.Maps.{Text, Map, Every, select, _⟼_, key-of, entries-where, remove-all}
 use Rattle.state.specs.MapLaws.{by-test}
-use Rattle.state.specs.Places.{without, remove-all-is}
+use Rattle.state.specs.Places.{without, remove-all-is, remove-all-rearranged}
+use Rattle.state.specs.Sort.{Pairs}
+use Rattle.state.specs.Sorted.{in-order}
 use Rattle.state.specs.Records.{SnapshotLeaseToken, State, AuthorityContext, PublicationAuthorityFaults}
 use Rattle.state.specs.Setters.{set-revision}
-use Rattle.fields.specs.Format.{all, enc, enc-text}
+use Rattle.fields.specs.Format.{all}
 use Rattle.fields.specs.Codes.{codes}
 use Rattle.tables.specs.Seek.{rows-at}
 use Rattle.tables.specs.SeekLaws.{tails, rows-are}
@@ -27,9 +28,9 @@ use Rattle.image.specs.Stored.{leases-stored}
 use Rattle.image.specs.declared.Contents.{Contents}
 use Rattle.machine.specs.Actions.{AdvanceLeaseClock, Transition, rejected, accepted, decide, LeasesExpired}
 use Rattle.machine.specs.Machine.{act, advance-lease-clock}
-use Rattle.machine.specs.Next.{up, oldest, moved, expired, clock-advanced}
+use Rattle.machine.specs.Next.{up, oldest, moved, ended, expired, clock-advanced}
+use Rattle.machine.specs.ExpiredLaws.{expired-rearranged, expired-count}
 use Rattle.entries.specs.Sized.{well-formed}
-use Rattle.requests.specs.Cases.{write-parts}
 use Rattle.requests.specs.Outcome.{encodeOutcome}
 use Rattle.requests.specs.Meaning.{positionOf, contextOf, faultsOf}
 use Rattle.requests.specs.declared.PublicationAction.{PublicationAction}
@@ -40,14 +41,15 @@ use Rattle.next.specs.Head.{Small}
 use Rattle.next.specs.Shows.{Shows}
 use Rattle.next.specs.Kept.{run-to, run-rest, tables-here, before-leases, leases-seam, small-here}
 use Rattle.next.specs.Call.{Ready, ruled}
-use Rattle.next.specs.Due.{due, endedIds}
-use Rattle.next.specs.Outcome.{expiredBytes, outcomeBytes}
+use Rattle.expiry.specs.Due.{due}
+use Rattle.next.specs.Expired.{leaseIn, leasesAt, ById, WholeId}
+use Rattle.next.specs.Outcome.{RowsStand, outcomeBytes}
 use Rattle.next.specs.declared.LeasesExpired.{LeasesExpired as LeasesExpiredAt}
 use Rattle.next.specs.declared.PublicationOutcome.{PublicationOutcome}
 use Rattle.floor.specs.Floors.{policyFor, readableFor}
 use Rattle.leases.specs.Oldest.{oldestKept}
 use Rattle.leases.specs.Leased.{withLeases, Recomputed, recomputed, small-leases, table-count-low}
-use Rattle.clock.specs.Due.{keptBytes, endedCount, ends-by, kept-rows, ids-rows, count-rows, oldest-rows}
+use Rattle.clock.specs.Due.{keptBytes, endedCount, ends-by, kept-rows, count-rows, oldest-rows, rows-leases, rows-whole, rows-by-id}
 use Rattle.clock.specs.Tallies.{tallyOf}
 use Rattle.clock.specs.Parts.{BodyIs}
 use Rattle.clock.specs.declared.Tally.{Tally}
@@ -75,12 +77,12 @@ unfolding moved
 moved-is [] n = refl
 moved-is (id ∷ ids) n = simp (ne-eqb (length (id ∷ ids)) 0 (λ z. omega arith))
 
-without-count : (p : SnapshotLeaseToken → Bool) (m : Map SnapshotLeaseToken) → length (without p m) + length (keys-where p m) ≡ length m
-unfolding without keys-where
+without-count : (p : SnapshotLeaseToken → Bool) (m : Map SnapshotLeaseToken) → length (without p m) + length (entries-where p m) ≡ length m
+unfolding without select
 without-count p [] = refl
 without-count p ((k ⟼ v) ∷ m) =
     let i = without-count p m in
-    by-test (λ b. length (cond b (without p m) ((k ⟼ v) ∷ without p m)) + length (cond b (k ∷ keys-where p m) (keys-where p m)) ≡ length ((k ⟼ v) ∷ m)) (p v)
+    by-test (λ b. length (cond b (without p m) ((k ⟼ v) ∷ without p m)) + length (cond b ((k ⟼ v) ∷ entries-where p m) (entries-where p m)) ≡ length ((k ⟼ v) ∷ m)) (p v)
     (λ _. omega arith) (λ _. omega arith)
 
 without-size : (p : SnapshotLeaseToken → Bool) (m : Map SnapshotLeaseToken) → length (all lease-row (without p m)) ≤ length (all lease-row m)
@@ -108,7 +110,7 @@ module _ (s : State) (x : List ℕ) (e : encodeImage s ≡ x) (w : Formed s) (ti
   rows = rows-at (codes lease) (length m) (drop (leases-at s) x)
 
   left-is : left ≡ without (ends-by tick) m
-  left-is = remove-all-is (ends-by tick) m (leases-stored s w .ascending)
+  left-is = remove-all-rearranged (expired-rearranged s tick) m ∙ remove-all-is (ends-by tick) m (leases-stored s w .ascending)
 
   rows-is : rows ≡ tails (codes lease) lease-row key-of m (from-jobs s)
   rows-is = ap (rows-at (codes lease) (length m)) (ap (drop (leases-at s)) (sym e) ∙ at-leases s) ∙ rows-are (codes lease) lease-row key-of m (from-jobs s) (leases-stored s w .hopped)
@@ -116,20 +118,26 @@ module _ (s : State) (x : List ℕ) (e : encodeImage s ≡ x) (w : Formed s) (ti
   kept-here : keptBytes tick rows ≡ all lease-row left
   kept-here =
       ap (keptBytes tick) rows-is ∙ kept-rows tick (from-jobs s) m (well-formed s w .leases .each) (leases-stored s w .hopped)
-      ∙ sym (bytes-remove-all lease-row (ends-by tick) m (leases-stored s w .ascending))
+      ∙ sym (bytes-remove-all lease-row (ends-by tick) m (leases-stored s w .ascending) (expired-rearranged s tick))
 
-  ids-here : endedIds tick rows ≡ all enc-text ids
-  ids-here = ap (endedIds tick) rows-is ∙ ids-rows tick (from-jobs s) m (well-formed s w .leases .each) (leases-stored s w .hopped)
+  leases-here : leasesAt x (leases-at s) (length m) ≡ m
+  leases-here = ap (map leaseIn) rows-is ∙ rows-leases (from-jobs s) m (well-formed s w .leases .each) (leases-stored s w .hopped)
+
+  by-id-here : Pairs ById rows
+  by-id-here = subst (Pairs ById) (sym rows-is) (rows-by-id (from-jobs s) m (in-order m (leases-stored s w .ascending)) (leases-stored s w .hopped))
+
+  whole-here : Every WholeId rows
+  whole-here = subst (Every WholeId) (sym rows-is) (rows-whole (from-jobs s) m (well-formed s w .leases .each) (leases-stored s w .hopped))
 
   count-here : endedCount tick rows ≡ length ids
-  count-here = ap (endedCount tick) rows-is ∙ count-rows tick (from-jobs s) m (well-formed s w .leases .each) (leases-stored s w .hopped)
+  count-here = ap (endedCount tick) rows-is ∙ count-rows tick (from-jobs s) m (well-formed s w .leases .each) (leases-stored s w .hopped) ∙ sym (expired-count s tick)
 
   oldest-left : (floor : ℕ) → oldestKept (due tick) floor rows ≡ oldest floor left
   oldest-left floor =
       ap (oldestKept (due tick) floor) rows-is ∙ oldest-rows tick (from-jobs s) floor m (well-formed s w .leases .each) (leases-stored s w .hopped) ∙ ap (oldest floor) (sym left-is)
 
   left-count : length left ≡ length m - length ids
-  left-count = let a = ap length left-is in let b = without-count (ends-by tick) m in omega arith
+  left-count = let a = ap length left-is in let b = without-count (ends-by tick) m in omega (arith, expired-count s tick)
 
   kept-low : length (keptBytes tick rows) ≤ length (leases-bytes s)
   kept-low =
@@ -153,10 +161,6 @@ module _ (s : State) (x : List ℕ) (e : encodeImage s ≡ x) (w : Formed s) (ti
   unfolding front
   tables-left =
       (λ i. (before-run i ++ kept-here i) ++ after-run i) ∙ append-assoc (before-leases s []) (all lease-row left) (from-jobs s) ∙ sym (leases-seam s [] (all lease-row left ++ from-jobs s))
-
-  told-here : length ids < 256 → digits 1 4 ++ (digits 1 (length ids) ++ endedIds tick rows) ≡ encodeOutcome (LeasesExpired ids)
-  unfolding digits encodeOutcome write-parts enc
-  told-here h = let z : length ids % 256 ≡ length ids = omega arith in (λ i. 4 ∷ z i ∷ ids-here i)
 
 -- what the code has computed by the end
 module _ (s : State) (x q : List ℕ) (e : encodeImage s ≡ x) (w : Formed s) (a : ContextAt) (tick : ℕ) (omit : Bool) where
@@ -185,8 +189,8 @@ module _ (s : State) (x q : List ℕ) (e : encodeImage s ≡ x) (w : Formed s) (
       (ap (λ (u : Tally). u .size) k ∙ ap length (kept-here s x e w tick))
       (n ∙ ap (λ (j : ℕ). length (s .leases) - j) ended ∙ sym (left-count s x e w tick)))
 
-abbrev pub expiredAt : Contents → (tick ended : ℕ) → LeasesExpiredAt
-expiredAt c tick ended = record { at = c .leases .at; count = c .leases .count; tick = tick; ended = ended }
+abbrev pub ended-of : Contents → (tick : ℕ) → LeasesExpiredAt
+ended-of c tick = record { at = c .leases .at; count = c .leases .count; tick = tick }
 
 -- A CALL OF IT
 module _ {x : List ℕ} {c : Contents} {q : List ℕ} {a : ContextAt} {f : FaultsAt} {l : AdvanceLeaseClockAt} (ready : Ready x c q (record { context = a; faults = f; action = PublicationAction.AdvanceLeaseClock l })) where
@@ -217,21 +221,22 @@ module _ {x : List ℕ} {c : Contents} {q : List ℕ} {a : ContextAt} {f : Fault
     tally-is : t ≡ tallyOf (l .«next_tick») policy x (leases-at s) (length (s .leases))
     tally-is = k ∙ ap (λ (d : Contents). tallyOf (l .«next_tick») policy x (d .leases .at) (d .leases .count)) (ready .opened)
 
-    ended-is : t .ended ≡ length (expired s (l .«next_tick»))
-    ended-is = ap (λ (u : Tally). u .ended) tally-is ∙ count-here s x (ready .image-is) (ready .formed) (l .«next_tick»)
-
-    ended-low : length (expired s (l .«next_tick»)) < 256
-    ended-low =
-        let n = without-count (ends-by (l .«next_tick»)) (s .leases) in
-        let o = ap (λ (d : Contents). d .leases .count) (ready .opened) in
-        omega (arith, count-low)
-
     pub advance-small : {c′ : Contents} {root-epoch floor readable clock epoch count : ℕ} → c′ ≡ withLeases c a root-epoch floor readable clock epoch (t .size) count → Small c′
     advance-small h = small-leases s (ready .formed) c (ready .opened) a
         (omega (arith, ap (λ (u : Tally). u .size) tally-is, kept-low s x (ready .image-is) (ready .formed) (l .«next_tick»), small-here s (ready .formed) .5)) h
 
-    pub advance-told : outcomeBytes x q (PublicationOutcome.LeasesExpired (expiredAt c (l .«next_tick») (t .ended))) ≡ encodeOutcome (LeasesExpired (expired s (l .«next_tick»)))
-    advance-told = (λ i. digits 1 4 ++ expiredBytes x (expiredAt (ready .opened i) (l .«next_tick») (ended-is i))) ∙ told-here s x (ready .image-is) (ready .formed) (l .«next_tick») ended-low
+  -- the rows are those of the leases, so what is told is what the machine lists
+  pub advance-stand : RowsStand x (ended-of c (l .«next_tick»))
+  advance-stand = subst (λ (d : Contents). d .leases .count ≤ 64 → RowsStand x (ended-of d (l .«next_tick»))) (sym (ready .opened)) (λ few. record {
+    few = few;
+    by-id = by-id-here s x (ready .image-is) (ready .formed) (l .«next_tick»);
+    whole-ids = whole-here s x (ready .image-is) (ready .formed) (l .«next_tick»);
+  }) count-low
+
+  pub advance-told : outcomeBytes x q (PublicationOutcome.LeasesExpired (ended-of c (l .«next_tick»))) ≡ encodeOutcome (LeasesExpired (expired s (l .«next_tick»)))
+  advance-told =
+      ap (λ (d : Contents). outcomeBytes x q (PublicationOutcome.LeasesExpired (ended-of d (l .«next_tick»)))) (ready .opened)
+      ∙ ap (λ (m : Map SnapshotLeaseToken). encodeOutcome (LeasesExpired (map key-of (ended (l .«next_tick») m)))) (leases-here s x (ready .image-is) (ready .formed) (l .«next_tick»))
 
   pub advance-tables : {ps : List ℕ} → BodyIs (l .«next_tick») x (c .intents .at) (c .leases .at) (c .leases .count) (c .jobs .at) ps → gatherOf x q ps ≡ from-intents (clock-advanced s (l .«next_tick») (f .«omit_lease_root_epoch»))
   advance-tables g =

@@ -10,7 +10,7 @@ use Rattle.fields.specs.Codes.{codes, skip, codesOf}
 use Rattle.fields.specs.Walks.{placeOf}
 use Rattle.tables.specs.Seek.{rows-at}
 use Rattle.image.specs.Shapes.{lease}
-use Rattle.next.specs.Due.{due}
+use Rattle.expiry.specs.Due.{due}
 use Rattle.next.specs.Added.{Added, zeros, one-long, one-gathers, more-filled, more-gathers}
 use Rattle.clock.specs.Due.{rowOf, keptBytes, row-size}
 

@@ -10,7 +10,7 @@ use Rattle.fields.specs.Codes.{codes, skip, codesOf}
 use Rattle.fields.specs.Walks.{placeOf, drop-within}
 use Rattle.tables.specs.Seek.{rows-at}
 use Rattle.image.specs.Shapes.{lease}
-use Rattle.next.specs.Due.{due, next-low, rows-none, rows-next}
+use Rattle.expiry.specs.Due.{due, next-low, rows-none, rows-next}
 use Rattle.leases.specs.Oldest.{oldestKept, kept-end, kept-on}
 use Rattle.clock.specs.Due.{rowOf, keptBytes, endedCount, next-high, row-length}
 use Rattle.clock.specs.declared.Tally.{Tally}

@@ -64,8 +64,8 @@ fn count_rows(s: &[u8], at: usize, n: usize, tick: u64, floor: u64) -> Tally
         let q = tables::skip_record(&image::LEASE, s, p);
         t = count_row(
             t,
-            next::is_due(s, p, tick),
-            next::number_after(&before, s, p),
+            expiry::is_due(s, p, tick),
+            tables::number_after(&before, s, p),
             parts::less(q, p),
         );
         p = q;
@@ -95,7 +95,7 @@ fn stays(parts: &mut [usize], s: &[u8], at: usize, n: usize, tick: u64)
             i + 1,
             0,
             p,
-            len_unless(next::is_due(s, p, tick), parts::less(q, p)),
+            len_unless(expiry::is_due(s, p, tick), parts::less(q, p)),
         );
         p = q;
         i += 1;
@@ -185,7 +185,6 @@ pub fn advance_lease_clock(
         at: leases.at,
         count: leases.count,
         tick: a.next_tick,
-        ended: t.ended,
     });
     let used = 3 * (leases.count + 2);
     next::emit(

@@ -12,12 +12,13 @@ use Rattle.image.specs.Layout.{each, encodeImage, decodeImage}
 use Rattle.requests.specs.Cases.{read-case, write-parts}
 use Rattle.requests.specs.Flags.{bits-number}
 use Rattle.requests.specs.Request.{read-fields, read-action, read-request, decodeRequest, encodeRequest, read-token, decodeToken, encodeToken}
-use Rattle.requests.specs.Outcome.{encodeOutcome, decodeOutcome}
+use Rattle.requests.specs.Outcome.{enc-list, read-texts, read-list, encodeOutcome, read-outcome, decodeOutcome}
 use Rattle.entries.specs.Bytes.{applyBytes, validateBytes, testBytes, defaultBytes}
 
 unfoldable pub bytes-compute : Unit {0}
 unfolding machine-computes byteIn charLen charsAfter utf8 digits value settle over byte many read-number read-kind enc-option
     read-option enc-text read-text after rows all read-set enc dec count write read writes roomy contents reads encode decode
     whole each encodeImage decodeImage read-case write-parts bits-number read-fields read-action read-request decodeRequest
-    encodeRequest read-token decodeToken encodeToken encodeOutcome decodeOutcome applyBytes validateBytes testBytes defaultBytes
+    encodeRequest read-token decodeToken encodeToken enc-list read-texts read-list encodeOutcome read-outcome decodeOutcome applyBytes
+    validateBytes testBytes defaultBytes
 bytes-compute = tt

@@ -14,7 +14,8 @@ use borrow.Author.Tests.{lt-ltb, le-ltb, le-leb, lt-leb, eq-eqb, ne-eqb}
 use Rattle.text.specs.Order.{orderOf}
 use Rattle.text.specs.declared.Order.{Order}
 use Rattle.text.specs.Utf8.{utf8}
-use Rattle.fields.specs.Format.{Malformed, OverLimit, NotUtf8, Res, ok, bad, bind, byte, many, read-kind, read-text, is-less, after, rows, itself, read-set}
+use Rattle.state.specs.Maps.{is-less}
+use Rattle.fields.specs.Format.{Malformed, OverLimit, NotUtf8, Res, ok, bad, bind, byte, many, read-kind, read-text, after, rows, itself, read-set}
 use Rattle.fields.specs.FormatLaws.{text-shape}
 use Rattle.fields.specs.Codes.{Code, then-none, set-most, key-limit, read-flag, step, advance, walk, codeOf, codesOf}
 use Rattle.fields.specs.Walks.{placeOf, end-at, walkOf, stepOf, onward, part, Ended, ended, faulted, stepped, stopped, text-leaves, advance-leaves, walk-leaves}

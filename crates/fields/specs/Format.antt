@@ -7,12 +7,9 @@ use mathlib.Core.Option.{Option, none, some}
 use mathlib.Core.Path.{_≡_}
 use lib.ListN.{length, take, drop}
 use lib.Dec.{leb}
-use Rattle.text.specs.Order.{orderOf}
-use Rattle.text.specs.declared.Order.{Order}
-use Rattle.text.specs.declared.Order.the-variants.{Less, Equal, Greater}
 use Rattle.text.specs.Utf8.{utf8}
 use Rattle.parts.specs.Digits.{digits, value, Bytes}
-use Rattle.state.specs.Maps.{Text}
+use Rattle.state.specs.Maps.{Text, before}
 use Rattle.state.specs.Records.{ObjectKind, Data, Manifest}
 
 -- THE FAULTS: "the request or token ends early, has surplus bytes, or holds a byte or set order that the layout forbids"
@@ -82,14 +79,9 @@ read-text n s = bind (byte s) (λ k r. check (leb k n) OverLimit (bind (many k r
 
 -- ---- rows: n items, each with a key after the one before it
 
-abbrev pub is-less : Order → Bool
-is-less Less = true
-is-less Equal = false
-is-less Greater = false
-
 unfoldable pub after : Option Text → Text → Bool
 after none k = true
-after (some p) k = is-less (orderOf p k)
+after (some p) k = before p k
 
 unfoldable pub rows : {A : Type 0} → (List ℕ → Res A) → (A → Text) → ℕ → Option Text → List ℕ → Res (List A)
 rows item key zero p s = ok [] s

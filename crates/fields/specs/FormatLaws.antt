@@ -269,7 +269,7 @@ small (option f) = small f
 small (set m n) = ltb m 256 && ltb n 256
 small (f ▹ g) = small f && small g
 
-bytes-text : (n : ℕ) (t : Text) → n < 256 → TextOk n t → Bytes (enc-text t)
+pub bytes-text : (n : ℕ) (t : Text) → n < 256 → TextOk n t → Bytes (enc-text t)
 unfolding enc-text
 bytes-text n t h w = bytes-cons (length t) t (omega (arith, w .fits)) (w .bytes)
 

@@ -9,14 +9,12 @@ use mathlib.Core.Option.{none, some}
 use lib.ListN.{length, take, drop, length-append, length-drop}
 use lib.Seq.{take-append-seam}
 use Rattle.text.specs.Order.{orderOf}
-use Rattle.text.specs.declared.Order.{Order}
-use Rattle.text.specs.declared.Order.the-variants.{Less, Equal, Greater}
-use Rattle.state.specs.Maps.{Text, Map, Entry, _⟼_, key-of, lookup}
-use Rattle.state.specs.MapLaws.{Each, each-lookup}
+use Rattle.state.specs.Maps.{Text, is-less, Map, Entry, _⟼_, key-of, lookup}
+use Rattle.state.specs.MapLaws.{is-less-true, Each, each-lookup}
 use Rattle.state.specs.Places.{ahead, at, behind}
 use Rattle.state.specs.Sorted.{Below, Ascending}
 use Rattle.state.specs.Records.{State}
-use Rattle.fields.specs.Format.{all, is-less, after, ascends, Every, Rows, Field, El, enc, Within}
+use Rattle.fields.specs.Format.{all, after, ascends, Every, Rows, Field, El, enc, Within}
 use Rattle.fields.specs.FormatLaws.{and-true}
 use Rattle.fields.specs.Codes.{Code, key-limit, codes}
 use Rattle.tables.specs.Seek.{Seen, seek, placed, row-of as row-found}
@@ -25,11 +23,6 @@ use Rattle.image.specs.Body.{row, id}
 use Rattle.image.specs.Shapes.{short, reference, prepared, lease-rest, job-rest, permit-rest, reference-parts, prepared-parts, lease-parts, job-parts, permit-parts}
 use Rattle.image.specs.Layout.{most-intents, most-roots, most-pins, most-reservations, most-leases, most-jobs, each, row-of, own-row, Formed}
 use Rattle.image.specs.Tables.{bytes-split}
-
-is-Less : (o : Order) → is-less o ≡ true → o ≡ Less
-is-Less Less h = refl
-is-Less Equal h = cc
-is-Less Greater h = cc
 
 -- ROWS OF A MAP: each entry as it is written, under its own key
 module _ {A B : Type 0} (at : Entry A → Text × B) where
@@ -41,7 +34,7 @@ module _ {A B : Type 0} (at : Entry A → Text × B) where
   below-of [] k o a = (tt, tt)
   below-of ((j ⟼ v) ∷ m) k o a =
       let (a₀, a₁) = and-true (is-less (orderOf k (at (j ⟼ v) .0))) (ascends id (some (at (j ⟼ v) .0)) (each at m)) a in
-      (is-Less (orderOf k j) (rw (o .0) at a₀), below-of m j (o .1) (rw (o .0) at a₁))
+      (is-less-true (orderOf k j) (rw (o .0) at a₀), below-of m j (o .1) (rw (o .0) at a₁))
 
   pub ascending-of : (m : Map A) → Every OwnKey m → ascends id none (each at m) ≡ true → Ascending m
   unfolding each ascends after

@@ -24,7 +24,7 @@ use Rattle.image.specs.Stored.{leases-stored}
 use Rattle.machine.specs.Formed.{LeaseAt}
 use Rattle.machine.specs.Next.{oldest}
 use Rattle.entries.specs.Sized.{image-texts, well-formed}
-use Rattle.next.specs.Due.{rows-none, rows-next}
+use Rattle.expiry.specs.Due.{rows-none, rows-next}
 use Rattle.floor.specs.Floors.{before-version}
 use Rattle.floor.specs.Oldest.{version-codes, version-row}
 

@@ -24,7 +24,8 @@ use Rattle.image.specs.declared.Contents.{Contents}
 use Rattle.machine.specs.Actions.{Rule, find-or, decide}
 use Rattle.next.specs.Kept.{tables-here, length-here, before-leases, leases-seam}
 use Rattle.next.specs.Edit.{row-none, row-some, row-size, none-there, some-there, from-place, run-row, run-ahead, run-behind, remove-size, remove-count, insert-over, insert-new, insert-size}
-use Rattle.leases.specs.Rows.{before-epoch, epoch-row}
+use Rattle.expiry.specs.Due.{before-epoch}
+use Rattle.leases.specs.Rows.{epoch-row}
 use Rattle.image.specs.CodeLists.{lease-codes}
 
 long : (e : Entry SnapshotLeaseToken) → 1 ≤ length (lease-row e)

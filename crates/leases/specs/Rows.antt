@@ -1,18 +1,15 @@
 -- The numbers of a stored lease: each behind the fields that stand before it.
 use Prim.Native.Nat.{ℕ, _^_, _<_}
-use mathlib.Core.List.{List, [], _∷_, _++_, append-assoc}
+use mathlib.Core.List.{List, _++_, append-assoc}
 use mathlib.Core.Path.{_≡_, ap, _∙_}
 use lib.ListN.{take}
 use Rattle.parts.specs.Digits.{digits, value}
 use Rattle.state.specs.Records.{SnapshotLeaseToken}
 use Rattle.fields.specs.Format.{Field, _▹_, El, enc}
-use Rattle.fields.specs.Codes.{Code, a-text, a-number, codes, skip}
-use Rattle.image.specs.Shapes.{short, u64, name, position, closure, lease, lease-parts}
-use Rattle.next.specs.Due.{before-deadline}
+use Rattle.fields.specs.Codes.{codes, skip}
+use Rattle.image.specs.Shapes.{u64, name, position, closure, lease, lease-parts}
+use Rattle.expiry.specs.Due.{before-epoch, before-deadline}
 use Rattle.next.specs.Peeks.{skip-to, number-here}
-
-abbrev pub before-epoch : List Code
-before-epoch = a-text short ∷ a-text short ∷ a-number 8 ∷ []
 
 -- a number behind a field
 number-in : (f : Field) (v : El f) (n : ℕ) (r : List ℕ) → n < 256 ^ 8 → value (take 8 (skip 0 (codes f) (enc f v ++ (digits 8 n ++ r)))) ≡ n

@@ -50,7 +50,7 @@ fn oldest_without(s: &[u8], at: usize, n: usize, id: &[u8], floor: u64) -> u64
     while i < n {
         m = older(
             text::same(id, fields::text_at(s, p)),
-            next::number_after(&before, s, p),
+            tables::number_after(&before, s, p),
             m,
         );
         p = tables::skip_record(&image::LEASE, s, p);
@@ -440,7 +440,7 @@ pub fn release_lease(
         return parts::refuse(22);
     }
     let before = [64u8, 64, 8];
-    let held = next::number_after(&before, row, 0);
+    let held = tables::number_after(&before, row, 0);
     if held != a.expected_lease_epoch {
         return parts::refuse(23);
     }

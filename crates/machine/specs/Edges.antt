@@ -1,15 +1,14 @@
 -- The starred edges E2 to E10 of the scope paper, as rows of one table, by one theorem. (E1 is about the image.) Two rows more tell the
--- order of ids by their bytes from one by their length.
+-- order of ids by their bytes from one by their length, and two the order in which ended leases are listed.
 -- Faults off, generation 1; window 3 and frontier 10 stand before every row.
 use Prim.Native.Nat.{ℕ}
 use mathlib.Core.Path.{_≡_, refl}
-use mathlib.Core.List.{List, [], _∷_}
+use mathlib.Core.List.{List, [], _∷_, map}
 use mathlib.Core.Option.{Option, none, some}
 use mathlib.Core.Bool.{Bool, true, false, _&&_}
 use lib.Dec.{eqb}
 use lib.ListN.{replicate, length}
-use Rattle.text.specs.Order.{orderOf}
-use Rattle.state.specs.Maps.{Text, Map, side, same-texts, all, insert, keys-where, is-empty}
+use Rattle.state.specs.Maps.{Text, Map, _⟼_, key-of, before, same-texts, all, insert, is-empty}
 use Rattle.state.specs.Records.{AuthorityContext, no-faults, Manifest, ObjectReference, SnapshotClosure, SnapshotLeaseToken, State, default}
 use Rattle.state.specs.Setters.{set-leases, set-lease-clock-tick}
 use Rattle.machine.specs.Actions.{Action, ObserveCommittedFrontier, SetRetentionWindow, ObserveRangeMapEpoch, ConfigureCollectionRoot, AcquireLease, ReleaseLease, AdvanceLeaseClock, PrepareCollection, Prepare, Publish, Pin, ReserveDelete, Transition, rejected, accepted}
@@ -53,7 +52,7 @@ test p none = false
 test p (some s) = p s
 
 abbrev pub keys : {A : Type 0} → Map A → List Text
-keys m = keys-where (λ _. true) m
+keys m = map key-of m
 
 pub data Row : Type 0 where
   answers : (before : List Action) (call : Action) (number : ℕ) → Row
@@ -62,6 +61,7 @@ pub data Row : Type 0 where
   ends : (before : List Action) (call : Action) (lease-ids : List Text) → Row
   collects : (before : List Action) (collected readable jobs : ℕ) → Row
   -- of the state with this change, as no call makes it
+  ends-loaded : (load : State → State) (call : Action) (lease-ids : List Text) → Row
   validates : (load : State → State) (token : SnapshotLeaseToken) (number : ℕ) → Row
   -- the ids of the pins, as they stand
   pins-are : (before : List Action) (ids : List Text) → Row
@@ -74,9 +74,10 @@ holds (answers-at c a n) = test (λ s. eqb (status (apply s a c no-faults)) n) s
 holds (floors before p r) = test (λ s. eqb (s .policy-floor) p && eqb (s .minimum-readable-version) r) (run start before)
 holds (ends before a l) = test (λ s. ends-all l (answer s a)) (run start before)
 holds (collects before c r j) = test (λ s. eqb (s .physically-collected-through) c && eqb (s .minimum-readable-version) r && eqb (length (s .collection-jobs)) j) (run start before)
+holds (ends-loaded load a l) = test (λ s. ends-all l (answer (load s) a)) start
 holds (validates load t n) = test (λ s. eqb (validate (load s) t) n) start
 holds (pins-are before ids) = test (λ s. same-texts (keys (s .pins)) ids) (run start before)
-holds (precedes a b) = side (orderOf a b) true false false
+holds (precedes a b) = before a b
 
 -- WHAT THE ROWS NAME
 abbrev hash : Text
@@ -94,12 +95,18 @@ closure = record { manifest = manifest; object-keys = key ∷ (109 ∷ []) ∷ [
 abbrev pub id : Text
 id = 105 ∷ []
 
+abbrev lease-under : (lease-id : Text) (version deadline : ℕ) → Action
+lease-under lease-id version deadline = AcquireLease lease-id (116 ∷ []) version (111 ∷ []) (112 ∷ []) deadline closure
+
 abbrev pub lease : (version deadline : ℕ) → Action
-lease version deadline = AcquireLease id (116 ∷ []) version (111 ∷ []) (112 ∷ []) deadline closure
+lease version deadline = lease-under id version deadline
 
 -- what such a lease is given
+abbrev token-under : (lease-id : Text) (version epoch deadline : ℕ) → SnapshotLeaseToken
+token-under lease-id version epoch deadline = record { lease-id = lease-id; tenant-id = 116 ∷ []; snapshot-version = version; lease-epoch = epoch; owner = 111 ∷ []; purpose = 112 ∷ []; deadline-tick = deadline; closure = closure; owner-generation = 1; authority-position = record { term = 1; index = 1 } }
+
 abbrev pub token : (version epoch deadline : ℕ) → SnapshotLeaseToken
-token version epoch deadline = record { lease-id = id; tenant-id = 116 ∷ []; snapshot-version = version; lease-epoch = epoch; owner = 111 ∷ []; purpose = 112 ∷ []; deadline-tick = deadline; closure = closure; owner-generation = 1; authority-position = record { term = 1; index = 1 } }
+token version epoch deadline = token-under id version epoch deadline
 
 abbrev reserve : (mark-epoch : ℕ) → Action
 reserve mark-epoch = ReserveDelete (112 ∷ []) mark-epoch key (record { revision = record { e-tag = none; version = none }; length = 1; sha256 = hash })
@@ -128,6 +135,13 @@ aa = 97 ∷ 97 ∷ []
 
 abbrev b : Text
 b = 98 ∷ []
+
+abbrev c : Text
+c = 99 ∷ []
+
+-- with leases of one deadline, of which two have one epoch
+abbrev alike : State → State
+alike s = set-leases ((aa ⟼ token-under aa 7 2 5) ∷ (b ⟼ token-under b 7 2 5) ∷ (c ⟼ token-under c 7 1 5) ∷ []) s
 
 abbrev pub table : List Row
 table =
@@ -166,6 +180,9 @@ table =
     -- ids ascend by their bytes, not by their length: aa, then b
     ∷ precedes aa b
     ∷ pins-are (Pin b none manifest ∷ Pin aa none manifest ∷ []) (aa ∷ b ∷ [])
+    -- leases that a tick ends: by deadline; by epoch where that is the same; by the bytes of the id where that is, too
+    ∷ ends (lease-under b 7 9 ∷ lease-under aa 7 9 ∷ lease-under c 7 8 ∷ []) (AdvanceLeaseClock 0 9) (c ∷ b ∷ aa ∷ [])
+    ∷ ends-loaded alike (AdvanceLeaseClock 0 5) (c ∷ aa ∷ b ∷ [])
     ∷ []
 
 pub edges : all holds table ≡ true

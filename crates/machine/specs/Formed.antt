@@ -8,6 +8,7 @@ use mathlib.Core.Option.{Option, none, some}
 use Rattle.state.specs.Maps.{Text, Map, Every}
 use Rattle.state.specs.MapLaws.{Each}
 use Rattle.state.specs.Sorted.{Ascending, Rising}
+use Rattle.state.specs.Sort.{Pairs, Differ}
 use Rattle.state.specs.Records.{AuthorityPosition, AuthorityContext, RevisionToken, ObjectIdentity, ObjectReference, PublicationIntent, PreparedPublication, SnapshotClosure, SnapshotLeaseToken, CollectionJobToken, CollectionReceipt, DeletePermit, State}
 use Rattle.machine.specs.Actions.{Action, ObserveCommittedFrontier, SetRetentionWindow, ObserveRangeMapEpoch, ConfigureCollectionRoot, AcquireLease, RenewLease, ReleaseLease, AdvanceLeaseClock, PrepareCollection, PublishCollection, AbandonCollection, Prepare, Publish, Pin, Unpin, ReserveDelete, RetireDelete, Outcome, Applied, DeleteReserved, LeaseAcquired, LeaseRenewed, LeasesExpired, CollectionPrepared, CollectionPublished}
 
@@ -121,7 +122,7 @@ module _ (T : Texts) where
     pub leases : Table LeaseAt (s .leases)
     pub collection-jobs : Table JobAt (s .collection-jobs)
 
-  -- a request, and an outcome; the ids of ended leases are in their order
+  -- a request, and an outcome; no id of ended leases stands twice
   abbrev pub ActionFits : Action → Type 0
   ActionFits (ObserveCommittedFrontier n) = Number n
   ActionFits (SetRetentionWindow e w) = Number e ⊗ Number w
@@ -146,6 +147,6 @@ module _ (T : Texts) where
   OutcomeFits (DeleteReserved p) = PermitFits p
   OutcomeFits (LeaseAcquired t) = LeaseFits t
   OutcomeFits (LeaseRenewed t) = LeaseFits t
-  OutcomeFits (LeasesExpired ids) = Every (T .Name) ids ⊗ Rising none ids
+  OutcomeFits (LeasesExpired ids) = Every (T .Name) ids ⊗ Pairs Differ ids
   OutcomeFits (CollectionPrepared t) = JobFits t
   OutcomeFits (CollectionPublished r) = ReceiptFits r

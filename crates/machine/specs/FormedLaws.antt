@@ -6,9 +6,11 @@ use mathlib.Core.List.{List, [], _∷_}
 use mathlib.Core.Option.{Option, none, some}
 use mathlib.Core.Bool.{Bool, true, false, cond}
 use native.Mathlib.Omega.{arith}
+use lib.Dec.{leb}
 use Rattle.state.specs.Maps.{Text, Map, insert, remove, remove-all}
 use Rattle.state.specs.MapLaws.{each-insert, each-remove, each-remove-all, each-lookup, each-keys}
-use Rattle.state.specs.Sorted.{insert-ascending, remove-ascending, remove-all-ascending, keys-rising}
+use Rattle.state.specs.Sorted.{insert-ascending, remove-ascending, remove-all-ascending}
+use Rattle.state.specs.SortLaws.{rearranged-back, rearranged-every}
 use Rattle.state.specs.Records.{AuthorityPosition, AuthorityContext, ObjectReference, PreparedPublication, SnapshotLeaseToken, CollectionJobToken, DeletePermit, PublicationAuthorityFaults, State, default}
 use Rattle.state.specs.Setters.{set-revision, set-root-intent-epoch, set-intents, set-roots, set-pins, set-deletion-reservations, set-observed-commit-frontier, set-retention-window, set-retention-policy-epoch, set-policy-floor, set-minimum-readable-version, set-physically-collected-through, set-lease-clock-tick, set-lease-epoch, set-leases, set-range-map-epoch, set-collection-root, set-collection-jobs}
 use Rattle.machine.specs.Actions.{Action, ObserveCommittedFrontier, SetRetentionWindow, ObserveRangeMapEpoch, ConfigureCollectionRoot, AcquireLease, RenewLease, ReleaseLease, AdvanceLeaseClock, PrepareCollection, PublishCollection, AbandonCollection, Prepare, Publish, Pin, Unpin, ReserveDelete, RetireDelete, Outcome, accepted, decide}
@@ -16,6 +18,7 @@ use Rattle.machine.specs.Next.{up, policy-for, readable-for, moved, expi
 use Rattle.machine.specs.Machine.{observe-committed-frontier, set-retention-window as set-window, observe-range-map-epoch, configure-collection-root, acquire-lease, renew-lease, release-lease, advance-lease-clock, prepare-collection, publish-collection, abandon-collection, prepare, publish, pin, unpin, reserve-delete, retire-delete, act, rule, apply}
 use Rattle.machine.specs.Invariant.{oldest-floor}
 use Rattle.machine.specs.ApplyLaws.{Accepts, accepts, stamped}
+use Rattle.machine.specs.ExpiredLaws.{expired-rearranged, expired-once}
 use Rattle.machine.specs.Formed.{Texts, rust-texts, Number, Maybe, Table, PositionFits, ContextFits, Numbers, ReferenceAt, IntentAt, PermitAt, LeaseAt, JobAt, Formed, ActionFits, OutcomeFits}
 
 -- NUMBERS that the machine computes
@@ -162,7 +165,10 @@ module _ (T : Texts) where
         let ids = expired s d in
         let root = either (f .omit-lease-root-epoch) _ _ (w .numbers .root-intent-epoch-fits) (moved-fits ids (s .root-intent-epoch) (w .numbers .root-intent-epoch-fits)) in (
           floored (keep-root-intent-epoch _ root (keep-lease-epoch _ (moved-fits ids (s .lease-epoch) (w .numbers .lease-epoch-fits)) (keep-leases _ (table-remove-all (LeaseAt T) ids (s .leases) (w .leases)) (keep-lease-clock-tick d (h .1) w)))),
-          (each-keys (LeaseAt T) (T .Name) _ (λ j t g. subst (T .Name) (g .0) (g .1 .0)) (s .leases) (w .leases .each), keys-rising _ (s .leases) (w .leases .ascending)),
+          (
+            rearranged-every (T .Name) (rearranged-back (expired-rearranged s d)) (each-keys (LeaseAt T) (T .Name) (λ t. leb (t .deadline-tick) d) (λ j t g. subst (T .Name) (g .0) (g .1 .0)) (s .leases) (w .leases .each)),
+            expired-once s d (w .leases .ascending),
+          ),
         )
     act-formed (PrepareCollection id n m r e x ns) c h k = λ _ _ _ _ _ _ _ _ _ _ _ _ _ _ _ _.
         both (h .0, (k .0, (k .1, h .1))) (λ new.

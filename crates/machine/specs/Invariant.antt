@@ -1,7 +1,7 @@
 -- What every moment of a history keeps, and that each call keeps it.
 -- Assumes nothing.
 use Prim.Native.Nat.{ℕ, suc, _≤_, _<_, _-_, min, max}
-use mathlib.Core.Path.{_≡_, refl}
+use mathlib.Core.Path.{_≡_, refl, _∙_}
 use mathlib.Core.List.{List, [], _∷_}
 use mathlib.Core.Option.{Option, none, some}
 use mathlib.Core.Bool.{Bool, false, cond}
@@ -10,12 +10,14 @@ use lib.Dec.{leb}
 use borrow.Author.Tests.{ltb-false, leb-false, eqb-true, not-false}
 use Rattle.state.specs.Maps.{Text, Map, _⟼_, same, lookup, remove-all}
 use Rattle.state.specs.MapLaws.{no-way, option-clash, is-none, by-test, lookup-remove-all, found-insert, found-remove, any-value-false, keys-where-has}
+use Rattle.state.specs.SortLaws.{rearranged-any}
 use Rattle.state.specs.Records.{AuthorityContext, no-faults, State, SnapshotClosure, SnapshotLeaseToken, CollectionJobToken, ObjectReference, PublicationIntent, CollectionReceipt, DeletePermit, ObjectIdentity, names}
 use Rattle.state.specs.Setters.{set-lease-clock-tick, set-lease-epoch, set-leases}
 use Rattle.machine.specs.Actions.{Action, ObserveCommittedFrontier, SetRetentionWindow, ObserveRangeMapEpoch, ConfigureCollectionRoot, AcquireLease, RenewLease, ReleaseLease, AdvanceLeaseClock, PrepareCollection, PublishCollection, AbandonCollection, Prepare, Publish, Pin, Unpin, ReserveDelete, RetireDelete, Outcome}
 use Rattle.machine.specs.Next.{top, up, oldest, policy-for, readable-for, moved, expired}
 use Rattle.machine.specs.Machine.{observe-committed-frontier, set-retention-window, observe-range-map-epoch, configure-collection-root, acquire-lease, renew-lease, release-lease, advance-lease-clock, prepare-collection, publish-collection, abandon-collection, prepare, publish, pin, unpin, reserve-delete, retire-delete, act}
 use Rattle.machine.specs.ApplyLaws.{Accepts}
+use Rattle.machine.specs.ExpiredLaws.{expired-rearranged}
 use Rattle.machine.specs.Ledger.{took, gives, Lease, Ledger, note}
 use Rattle.machine.specs.Claims.{Five, five-of, Rises, Ordered}
 use Rattle.machine.specs.LedgerLaws.{Linked, raise, linked-live, begin-linked, renew-linked, end-linked, end-all-linked}
@@ -237,7 +239,7 @@ module _ {n : ℕ} (few : n < top) {L : Ledger} (s : State) (i : Inv n (core s) 
             lease-ok = λ k t h.
                 let f = lookup-remove-all ids k t (s .leases) h in
                 let ok = g .lease-ok k t (f .1) in
-                let out : p t ≡ false = by-test (λ b. p t ≡ b → p t ≡ false) (p t) (λ _ y. no-way (keys-where-has p (s .leases) k t (f .1) y) (f .0)) (λ _ y. y) refl in
+                let out : p t ≡ false = by-test (λ b. p t ≡ b → p t ≡ false) (p t) (λ _ y. no-way (rearranged-any (same k) (expired-rearranged s d) ∙ keys-where-has p (s .leases) k t (f .1) y) (f .0)) (λ _ y. y) refl in
                 record { own-id = ok .own-id; above = ok .above; below = ok .below; in-time = leb-false _ _ out };
             job-ok = g .job-ok;
           };

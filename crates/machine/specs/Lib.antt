@@ -2,6 +2,7 @@ pub mod Status
 pub mod Actions
 pub mod Next
 pub mod Machine
+pub mod ExpiredLaws
 pub mod ApplyLaws
 pub mod Computes
 pub mod Edges

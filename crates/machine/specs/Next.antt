@@ -1,11 +1,12 @@
 -- What each acceptance makes: the tokens and the permit that it gives, and the next state, each under one name.
 -- `revision` is set by `apply` itself.
 use Prim.Native.Nat.{ℕ, suc, _-_, _^_, min, max}
-use mathlib.Core.List.{List, [], _∷_}
+use mathlib.Core.List.{List, [], _∷_, map}
 use mathlib.Core.Option.{Option, none, some}
-use mathlib.Core.Bool.{Bool, cond}
-use lib.Dec.{leb}
-use Rattle.state.specs.Maps.{Text, Map, _⟼_, insert, remove, remove-all, keys-where}
+use mathlib.Core.Bool.{Bool, cond, _&&_, _||_}
+use lib.Dec.{leb, ltb, eqb}
+use Rattle.state.specs.Maps.{Text, Entry, Map, _⟼_, key-of, before, insert, remove, remove-all, entries-where}
+use Rattle.state.specs.Sort.{sort}
 use Rattle.state.specs.Records.{AuthorityContext, ObjectIdentity, ObjectReference, PreparedPublication, SnapshotClosure, SnapshotLeaseToken, CollectionJobToken, DeletePermit, State}
 use Rattle.state.specs.Setters.{set-root-intent-epoch, set-intents, set-roots, set-pins, set-deletion-reservations, set-observed-commit-frontier, set-retention-window, set-retention-policy-epoch, set-policy-floor, set-minimum-readable-version, set-physically-collected-through, set-lease-clock-tick, set-lease-epoch, set-leases, set-range-map-epoch, set-collection-root, set-collection-jobs}
 
@@ -125,9 +126,19 @@ released s id omit =
     ▸ bump-root-unless omit
     ▸ recompute-read-floor
 
--- the ids of the leases whose deadline a tick reaches, in their order
+-- a lease ran out before another: by deadline, then by epoch, then by id
+unfoldable pub ran-out-before : Entry SnapshotLeaseToken → Entry SnapshotLeaseToken → Bool
+ran-out-before (i ⟼ a) (j ⟼ b) =
+    ltb (a .deadline-tick) (b .deadline-tick)
+    || (eqb (a .deadline-tick) (b .deadline-tick) && (ltb (a .lease-epoch) (b .lease-epoch)
+    || (eqb (a .lease-epoch) (b .lease-epoch) && before i j)))
+
+-- the leases whose deadline a tick reaches, in the order in which they ran out
+abbrev pub ended : ℕ → Map SnapshotLeaseToken → Map SnapshotLeaseToken
+ended next-tick leases = sort ran-out-before (entries-where (λ lease. leb (lease .deadline-tick) next-tick) leases)
+
 abbrev pub expired : State → ℕ → List Text
-expired s next-tick = keys-where (λ lease. leb (lease .deadline-tick) next-tick) (s .leases)
+expired s next-tick = map key-of (ended next-tick (s .leases))
 
 -- an epoch moves only if a lease ended
 unfoldable pub moved : List Text → ℕ → ℕ

@@ -7,7 +7,7 @@ pub mod Bounds
 pub mod Peeks
 pub mod Asked
 pub mod Edit
-pub mod Due
+pub mod Expired
 pub mod Added
 pub mod Outcome
 pub mod AskedPlaces

@@ -1,18 +1,14 @@
 // The next image and the outcome, measured and then written: the one way in which a transition answers.
 ghost use mathlib.Core.Path.{_≡_};
 ghost use mathlib.Core.List.{_∷_, _++_};
-ghost use Prim.Native.Nat.{_+_, _-_, _≤_};
-ghost use lib.ListN.{length, take, drop};
+ghost use Prim.Native.Nat.{_+_, _≤_};
+ghost use lib.ListN.{length};
 ghost use mathlib.Core.Bool.{cond};
-ghost use Rattle.fields.specs.Codes.{codesOf, skip};
 ghost use Rattle.machine.specs.Next.{up};
 ghost use Rattle.parts.specs.Answer.{settle, Gave};
-ghost use Rattle.parts.specs.Digits.{value};
 ghost use Rattle.parts.specs.Gather.{gatherOf, Filled};
 ghost use Rattle.next.specs.Head.{windowFlag, windowValue, windowWidth, rootFlag, rootStart, rootWidth, headParts, overLimit, Small, withScalars};
-ghost use Rattle.next.specs.Due.{due, endedIds};
-ghost use Rattle.next.specs.Added.{Added};
-ghost use Rattle.next.specs.Outcome.{PermitEnds, AcquiredEnds, RenewedEnds, JobEnds, ReceiptEnds, permitParts, acquiredParts, renewedParts, preparedParts, publishedParts, ExpiredAs, outcomeBytes, Fits};
+ghost use Rattle.next.specs.Outcome.{PermitEnds, AcquiredEnds, RenewedEnds, JobEnds, ReceiptEnds, permitParts, acquiredParts, renewedParts, preparedParts, publishedParts, RowsStand, Listed, ExpiredAs, outcomeBytes, Fits};
 use image::Contents;
 use image::MaybeNumber;
 use image::MaybeText;
@@ -23,12 +19,11 @@ use requests::CollectionReceipt;
 use requests::DeletePermit;
 use requests::SnapshotLeaseToken;
 
-// The ids of the leases that end at a tick: where the leases stand in the image, how many they are, and how many end.
+// The ids of the leases that end at a tick: where the leases stand in the image, and how many they are.
 pub struct LeasesExpired {
     pub at: usize,
     pub count: usize,
     pub tick: u64,
-    pub ended: usize,
 }
 
 // What an accepted action tells: numbers, and where texts and keys stand, in the request or, of a lease that is renewed or of
@@ -414,52 +409,30 @@ fn published_parts(o: CollectionReceipt) -> [usize; 6]
     [2, 6, 1, 1, start, parts::less(keys.at + keys.len, start)]
 }
 
-// The number that stands in the record at a place behind some of its fields.
-pub fn number_after(before: &[u8], s: &[u8], at: usize) -> u64
-    ensures { λ r. ⌜ r ≡ value (take 8 (skip 0 (codesOf (now (before .entry))) (drop at (now (s .entry))))) ⌝ }
-{
-    parts::u64_at(s, tables::skip_record(before, s, at))
-}
-
-// Whether the deadline of the lease at a place is reached.
-pub fn is_due(s: &[u8], at: usize, tick: u64) -> bool
-    ensures { λ r. ⌜ r ≡ due tick (drop at (now (s .entry))) ⌝ }
-{
-    let before = [64u8, 64, 8, 8, 64, 64];
-    number_after(&before, s, at) <= tick
-}
-
-// The length of a part that is there or not.
-fn len_if(there: bool, n: usize) -> usize
-    ensures { λ r. ⌜ r ≡ cond there n 0 ⌝ }
-{
-    if there { n } else { 0 }
-}
-
-// A part for each row, with the bytes of its id where it ends.
-fn ends(parts: &mut [usize], s: &[u8], at: usize, n: usize, tick: u64)
-    requires { ⌜ (n ≤ 64) × (length (now parts) ≡ 198) × Filled 2 (now parts) ⌝ }
-    ensures { λ r. ⌜ Added (endedIds tick) 2 (now (s .entry)) at n (now (parts .entry)) (now (parts .exit)) ⌝ }
+// A part for each place, with the bytes of the id that stands there.
+fn ids(parts: &mut [usize], s: &[u8], places: &[usize])
+    requires { ⌜ (length (now places) ≤ 64) × (length (now parts) ≡ 198) × Filled 2 (now parts) ⌝ }
+    ensures { λ r. ⌜ Listed (now (s .entry)) (now (places .entry)) 2 (now (parts .entry)) (now (parts .exit)) ⌝ }
 {
     let mut i = 0;
-    let mut p = fields::within(s, at);
-    while i < n {
+    while i < places.len() {
+        let p = places[i];
         let id = fields::text_at(s, p);
-        parts::set_part(parts, i + 2, 0, p, len_if(is_due(s, p, tick), id.len() + 1));
-        p = tables::skip_record(&image::LEASE, s, p);
+        parts::set_part(parts, i + 2, 0, p, id.len() + 1);
         i += 1;
     }
 }
 
 fn expired_parts(s: &[u8], o: LeasesExpired) -> [usize; 198]
-    requires { ⌜ o .count ≤ 64 ⌝ }
+    requires { ⌜ RowsStand (now s) o ⌝ }
     ensures { λ r. ⌜ ExpiredAs (now (s .entry)) o r ⌝ }
-    ensures filled { λ r. ⌜ Filled (o .count + 2) r ⌝ }
 {
     let mut parts = [0usize; 198];
+    let mut places = [0usize; 64];
+    let ended = expiry::in_order(s, o.at, o.count, o.tick, &mut places);
     parts::set_part(&mut parts, 0, 2, 4, 1);
-    parts::set_part(&mut parts, 1, 2, o.ended, 1);
-    ends(&mut parts, s, o.at, o.count, o.tick);
+    parts::set_part(&mut parts, 1, 2, ended, 1);
+    ids(&mut parts, s, &places[..ended]);
     parts
 }
 

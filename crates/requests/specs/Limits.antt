@@ -18,7 +18,7 @@ use Rattle.image.specs.Limits.{letters, counted, empty, reference, plain, full,
 use Rattle.requests.specs.Cases.{read-case, write-parts}
 use Rattle.requests.specs.Flags.{bits-number}
 use Rattle.requests.specs.Request.{read-fields, read-action, read-request, decodeRequest, encodeRequest, read-token, decodeToken, encodeToken}
-use Rattle.requests.specs.Outcome.{encodeOutcome, decodeOutcome}
+use Rattle.requests.specs.Outcome.{enc-list, read-texts, read-list, encodeOutcome, read-outcome, decodeOutcome}
 
 -- ACTIONS, by their texts and sets; every number is 0
 abbrev acquire : (lease-id tenant-id owner purpose : Text) (manifest : ObjectReference) (object-keys : List Text) → Action
@@ -37,7 +37,7 @@ pub data Row : Type 0 where
   set : (asks : List Text → Action) (limit : ℕ) → Row
   token-text : (shows : Text → SnapshotLeaseToken) (limit : ℕ) → Row
   token-set : (shows : List Text → SnapshotLeaseToken) (limit : ℕ) → Row
-  outcome-set : (tells : List Text → Outcome) (limit : ℕ) → Row
+  outcome-list : (tells : List Text → Outcome) (limit : ℕ) → Row
   flags : (low high number : ℕ) → Row
   action-byte : (action : ℕ) (fields : ℕ) (number : ℕ) → Row
 
@@ -72,7 +72,7 @@ holds (text a n) = parted (asked (a (letters n))) (asked (a (letters (suc n))))
 holds (set a n) = parted (asked (a (counted n))) (asked (a (counted (suc n))))
 holds (token-text t n) = parted (shown (t (letters n))) (shown (t (letters (suc n))))
 holds (token-set t n) = parted (shown (t (counted n))) (shown (t (counted (suc n))))
-holds (outcome-set o n) = parted (told (o (counted n))) (told (o (counted (suc n))))
+holds (outcome-list o n) = parted (told (o (counted n))) (told (o (counted (suc n))))
 holds (flags low high n) = eqb (raw low high 1 8) n
 holds (action-byte a fields n) = eqb (raw 0 0 a fields) n
 
@@ -169,8 +169,8 @@ table =
     ∷ token-set (λ object-keys. lease empty empty empty empty plain object-keys) 16
     ∷ token-text (λ object-key. lease empty empty empty empty plain (object-key ∷ [])) 128
     -- LeasesExpired, with ids of three bytes and of 64
-    ∷ outcome-set (λ lease-ids. LeasesExpired lease-ids) 64
-    ∷ outcome-set (λ lease-ids. LeasesExpired (map (λ id. id ++ letters 61) lease-ids)) 64
+    ∷ outcome-list (λ lease-ids. LeasesExpired lease-ids) 64
+    ∷ outcome-list (λ lease-ids. LeasesExpired (map (λ id. id ++ letters 61) lease-ids)) 64
     -- the requests with a set, and a token, with all their texts and sets at their limits
     ∷ text (λ object-key. acquire (letters 64) (letters 64) (letters 64) (letters 64) full (full-keys object-key)) 128
     ∷ text (λ object-key. PublishCollection (receipt (job (letters 64) full (letters 64) (letters 128)) full (full-keys object-key))) 128
@@ -180,5 +180,5 @@ table =
 
 pub limits : all holds table ≡ true
 unfolding image-computes all read-case write-parts bits-number read-fields read-action read-request decodeRequest encodeRequest
-    read-token decodeToken encodeToken encodeOutcome decodeOutcome
+    read-token decodeToken encodeToken enc-list read-texts read-list encodeOutcome read-outcome decodeOutcome
 limits = refl

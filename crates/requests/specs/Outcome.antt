@@ -1,43 +1,61 @@
 -- Outcomes as bytes: a byte 0 to 6 in declared order, then the fields.
-use Prim.Native.Nat.{ℕ}
+use Prim.Native.Nat.{ℕ, zero, suc, _≤_}
 use mathlib.Core.List.{List, [], _∷_}
+use lib.Dec.{leb}
+use lib.ListN.{length}
+use Rattle.state.specs.Maps.{Text}
 use Rattle.machine.specs.Actions.{Outcome, Applied, DeleteReserved, LeaseAcquired, LeaseRenewed, LeasesExpired, CollectionPrepared, CollectionPublished}
-use Rattle.fields.specs.Format.{bind, byte, Field, nothing, set}
+use Rattle.fields.specs.Format.{Malformed, OverLimit, Res, ok, bad, bind, check, byte, enc-text, read-text, all, Field, El, enc, dec, TextOk, Every, Within}
 use Rattle.image.specs.Contents.{Reply, whole}
 use Rattle.image.specs.Shapes.{short, lease, job, permit, receipt, lease-parts, lease-of, job-parts, job-of, permit-parts, permit-of, receipt-parts, receipt-of}
 use Rattle.image.specs.Layout.{most-leases}
-use Rattle.requests.specs.Cases.{Case, read-case, Parts, write-parts, WithinParts}
 
--- `lease_ids` as a set is, up to as many as there are leases
-abbrev pub lease-ids : Field
-lease-ids = set most-leases short
+-- A LIST of texts: how many they are and each, in whatever order they stand. `lease_ids` is one, of up to as many as there are leases.
+unfoldable pub enc-list : List Text → List ℕ
+enc-list ts = length ts ∷ all enc-text ts
 
-abbrev pub outcome-parts : Outcome → Parts
-outcome-parts Applied = record { tag = 0; shape = nothing; values = tt }
-outcome-parts (DeleteReserved p) = record { tag = 1; shape = permit; values = permit-parts p }
-outcome-parts (LeaseAcquired t) = record { tag = 2; shape = lease; values = lease-parts t }
-outcome-parts (LeaseRenewed t) = record { tag = 3; shape = lease; values = lease-parts t }
-outcome-parts (LeasesExpired ids) = record { tag = 4; shape = lease-ids; values = ids }
-outcome-parts (CollectionPrepared t) = record { tag = 5; shape = job; values = job-parts t }
-outcome-parts (CollectionPublished r) = record { tag = 6; shape = receipt; values = receipt-parts r }
+unfoldable pub read-texts : (limit n : ℕ) → List ℕ → Res (List Text)
+read-texts limit zero s = ok [] s
+read-texts limit (suc n) s = bind (read-text limit s) (λ t r. bind (read-texts limit n r) (λ ts r. ok (t ∷ ts) r))
+
+unfoldable pub read-list : (most limit : ℕ) → List ℕ → Res (List Text)
+read-list most limit s = bind (byte s) (λ n r. check (leb n most) OverLimit (read-texts limit n r))
+
+pub record ListOk (most limit : ℕ) (ts : List Text) : Type 0 where
+  pub count : length ts ≤ most
+  pub each : Every (TextOk limit) ts
 
 unfoldable pub encodeOutcome : Outcome → List ℕ
-encodeOutcome o = write-parts (outcome-parts o)
+encodeOutcome Applied = 0 ∷ []
+encodeOutcome (DeleteReserved p) = 1 ∷ enc permit (permit-parts p)
+encodeOutcome (LeaseAcquired t) = 2 ∷ enc lease (lease-parts t)
+encodeOutcome (LeaseRenewed t) = 3 ∷ enc lease (lease-parts t)
+encodeOutcome (LeasesExpired ids) = 4 ∷ enc-list ids
+encodeOutcome (CollectionPrepared t) = 5 ∷ enc job (job-parts t)
+encodeOutcome (CollectionPublished r) = 6 ∷ enc receipt (receipt-parts r)
 
 abbrev pub WithinOutcome : Outcome → Type 0
-WithinOutcome o = WithinParts (outcome-parts o)
+WithinOutcome Applied = Unit {0}
+WithinOutcome (DeleteReserved p) = Within permit (permit-parts p)
+WithinOutcome (LeaseAcquired t) = Within lease (lease-parts t)
+WithinOutcome (LeaseRenewed t) = Within lease (lease-parts t)
+WithinOutcome (LeasesExpired ids) = ListOk most-leases short ids
+WithinOutcome (CollectionPrepared t) = Within job (job-parts t)
+WithinOutcome (CollectionPublished r) = Within receipt (receipt-parts r)
 
--- and read again, by a caller
-abbrev pub outcomes : List (Case Outcome)
-outcomes =
-    record { shape = nothing; make = λ v. Applied }
-    ∷ record { shape = permit; make = λ v. DeleteReserved (permit-of v) }
-    ∷ record { shape = lease; make = λ v. LeaseAcquired (lease-of v) }
-    ∷ record { shape = lease; make = λ v. LeaseRenewed (lease-of v) }
-    ∷ record { shape = lease-ids; make = λ v. LeasesExpired v }
-    ∷ record { shape = job; make = λ v. CollectionPrepared (job-of v) }
-    ∷ record { shape = receipt; make = λ v. CollectionPublished (receipt-of v) }
-    ∷ []
+-- and read again, by a caller: what the fields behind each byte make
+abbrev made : (f : Field) → (El f → Outcome) → List ℕ → Res Outcome
+made f make s = bind (dec f s) (λ v r. ok (make v) r)
+
+unfoldable pub read-outcome : ℕ → List ℕ → Res Outcome
+read-outcome zero s = ok Applied s
+read-outcome (suc zero) s = made permit (λ v. DeleteReserved (permit-of v)) s
+read-outcome (suc (suc zero)) s = made lease (λ v. LeaseAcquired (lease-of v)) s
+read-outcome (suc (suc (suc zero))) s = made lease (λ v. LeaseRenewed (lease-of v)) s
+read-outcome (suc (suc (suc (suc zero)))) s = bind (read-list most-leases short s) (λ ids r. ok (LeasesExpired ids) r)
+read-outcome (suc (suc (suc (suc (suc zero))))) s = made job (λ v. CollectionPrepared (job-of v)) s
+read-outcome (suc (suc (suc (suc (suc (suc zero)))))) s = made receipt (λ v. CollectionPublished (receipt-of v)) s
+read-outcome (suc (suc (suc (suc (suc (suc (suc k))))))) s = bad Malformed
 
 unfoldable pub decodeOutcome : List ℕ → Reply Outcome
-decodeOutcome s = whole (bind (byte s) (λ k r. read-case outcomes k r))
+decodeOutcome s = whole (bind (byte s) (λ k r. read-outcome k r))

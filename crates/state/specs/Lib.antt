@@ -1,5 +1,7 @@
 pub mod Maps
 pub mod MapLaws
+pub mod Sort
+pub mod SortLaws
 pub mod Sorted
 pub mod Places
 pub mod Records

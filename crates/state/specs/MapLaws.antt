@@ -2,15 +2,16 @@
 -- Assumes nothing.
 use Prim.Native.Nat.{ℕ}
 use mathlib.Core.Path.{_≡_, refl, sym, _∙_, ap, subst}
-use mathlib.Core.List.{List, [], _∷_}
+use mathlib.Core.List.{List, [], _∷_, map}
 use mathlib.Core.Option.{Option, none, some}
 use mathlib.Core.Bool.{Bool, true, false, cond, _||_}
 use native.Mathlib.Omega.{arith}
 use Rattle.text.specs.Order.{orderOf}
 use Rattle.text.specs.OrderLaws.{order-equal, order-refl}
 use Rattle.text.specs.SameLaws.{same-refl, same-true, same-of-eq}
+use Rattle.text.specs.declared.Order.{Order}
 use Rattle.text.specs.declared.Order.the-variants.{Less, Equal, Greater}
-use Rattle.state.specs.Maps.{Text, same, Every, any, contains, is-some, side, Map, _⟼_, lookup, insert, remove, remove-all, any-value, keys-where, map-values}
+use Rattle.state.specs.Maps.{Text, same, is-less, Every, any, contains, select, is-some, side, Map, _⟼_, key-of, lookup, insert, remove, remove-all, any-value, entries-where, keys-where, map-values}
 
 -- TESTS
 pub no-way {ℓ} : {A : Type ℓ} {x : Bool} → x ≡ true → x ≡ false → A
@@ -27,6 +28,11 @@ is-none (some x) e = cc
 pub by-test {ℓ} : (P : Bool → Type ℓ) (b : Bool) → (b ≡ true → P true) → (b ≡ false → P false) → P b
 by-test P true f g = f refl
 by-test P false f g = g refl
+
+pub is-less-true : (o : Order) → is-less o ≡ true → o ≡ Less
+is-less-true Less e = refl
+is-less-true Equal e = no-way e refl
+is-less-true Greater e = no-way e refl
 
 -- ORDER AND EQUALITY AGREE
 equal-order : (a b : Text) → a ≡ b → orderOf a b ≡ Equal
@@ -100,12 +106,12 @@ module _ {A : Type 0} where
       (λ _ z. any-value-false p m k v rest z) h
 
   pub keys-where-has : (p : A → Bool) (m : Map A) (k : Text) (v : A) → lookup k m ≡ some v → p v ≡ true → contains k (keys-where p m) ≡ true
-  unfolding lookup keys-where any
+  unfolding lookup select any
   keys-where-has p [] k v h t = option-clash h
   keys-where-has p ((j ⟼ w) ∷ m) k v h t =
-      by-test (λ b. cond b (some w) (lookup k m) ≡ some v → contains k (cond (p w) (j ∷ keys-where p m) (keys-where p m)) ≡ true) (same k j)
+      by-test (λ b. cond b (some w) (lookup k m) ≡ some v → contains k (map key-of (cond (p w) ((j ⟼ w) ∷ entries-where p m) (entries-where p m))) ≡ true) (same k j)
       (λ e z. let q : w ≡ v = cc in rw (q, t, e))
-      (λ e z. by-test (λ b. contains k (cond b (j ∷ keys-where p m) (keys-where p m)) ≡ true) (p w)
+      (λ e z. by-test (λ b. contains k (map key-of (cond b ((j ⟼ w) ∷ entries-where p m) (entries-where p m))) ≡ true) (p w)
       (λ _. rw e (keys-where-has p m k v z t))
       (λ _. keys-where-has p m k v z t)) h
 
@@ -167,9 +173,9 @@ module _ {A : Type 0} (P : Text → A → Type 0) where
 
   -- a property of the keys that a test picks
   pub each-keys : (Q : Text → Type 0) (p : A → Bool) → ((k : Text) (v : A) → P k v → Q k) → (m : Map A) → Each m → Every Q (keys-where p m)
-  unfolding keys-where
+  unfolding select
   each-keys Q p f [] h = tt
-  each-keys Q p f ((k ⟼ v) ∷ m) h = by-test (λ b. Every Q (cond b (k ∷ keys-where p m) (keys-where p m))) (p v)
+  each-keys Q p f ((k ⟼ v) ∷ m) h = by-test (λ b. Every Q (map key-of (cond b ((k ⟼ v) ∷ entries-where p m) (entries-where p m)))) (p v)
       (λ _. (f k v (h .0), each-keys Q p f m (h .1))) (λ _. each-keys Q p f m (h .1))
 
 -- MAPPED VALUES

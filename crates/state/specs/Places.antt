@@ -2,15 +2,16 @@
 -- Assumes nothing.
 use mathlib.Core.Path.{_≡_, refl, sym, ap, _∙_, subst}
 use mathlib.Core.Bool.{Bool, false, cond}
-use mathlib.Core.List.{List, [], _∷_, _++_}
+use mathlib.Core.List.{List, [], _∷_, _++_, map}
 use mathlib.Core.Option.{Option, none, some}
 use Rattle.text.specs.Order.{orderOf}
 use Rattle.text.specs.OrderLaws.{flip, order-flip, order-equal}
 use Rattle.text.specs.SameLaws.{same-refl}
 use Rattle.text.specs.declared.Order.the-variants.{Less, Equal, Greater}
-use Rattle.state.specs.Maps.{Text, same, Every, side, Map, _⟼_, lookup, insert, remove, remove-all, keys-where}
+use Rattle.state.specs.Maps.{Text, same, Every, select, side, Map, _⟼_, key-of, lookup, insert, remove, remove-all, entries-where, keys-where}
 use Rattle.state.specs.MapLaws.{by-test, less-differs, greater-differs, equal-same}
 use Rattle.state.specs.Sorted.{Below, Ascending, below-trans}
+use Rattle.state.specs.Sort.{Rearranged, none as no-keys, keep, swap, then}
 
 module _ {A : Type 0} (k : Text) where
   unfoldable pub ahead : Map A → Map A
@@ -84,10 +85,10 @@ without p ((k ⟼ v) ∷ m) = cond (p v) (without p m) ((k ⟼ v) ∷ without p 
 
 module _ {A : Type 0} (p : A → Bool) where
   keys-above : (j : Text) (m : Map A) → Below j m → Ascending m → Every (λ i. same i j ≡ false) (keys-where p m)
-  unfolding keys-where
+  unfolding select
   keys-above j [] b a = tt
   keys-above j ((i ⟼ v) ∷ m) b a =
-      by-test (λ t. Every (λ i. same i j ≡ false) (cond t (i ∷ keys-where p m) (keys-where p m))) (p v)
+      by-test (λ t. Every (λ i. same i j ≡ false) (map key-of (cond t ((i ⟼ v) ∷ entries-where p m) (entries-where p m)))) (p v)
       (λ _. (greater-differs i j (order-flip j i ∙ ap flip b), keys-above j m (below-trans j i m b (a .0)) (a .1))) (λ _. keys-above j m (below-trans j i m b (a .0)) (a .1))
 
   remove-all-skip : (ks : List Text) (j : Text) (w : A) (m : Map A) → Every (λ i. same i j ≡ false) ks → remove-all ks ((j ⟼ w) ∷ m) ≡ (j ⟼ w) ∷ remove-all ks m
@@ -96,9 +97,28 @@ module _ {A : Type 0} (p : A → Bool) where
   remove-all-skip (i ∷ ks) j w m h = rw (h .0) (remove-all-skip ks j w (remove i m) (h .1))
 
   pub remove-all-is : (m : Map A) → Ascending m → remove-all (keys-where p m) m ≡ without p m
-  unfolding keys-where without remove-all remove
+  unfolding select without remove-all remove
   remove-all-is [] a = refl
   remove-all-is ((j ⟼ w) ∷ m) a =
-      by-test (λ t. remove-all (cond t (j ∷ keys-where p m) (keys-where p m)) ((j ⟼ w) ∷ m) ≡ cond t (without p m) ((j ⟼ w) ∷ without p m)) (p w)
+      by-test (λ t. remove-all (map key-of (cond t ((j ⟼ w) ∷ entries-where p m) (entries-where p m))) ((j ⟼ w) ∷ m) ≡ cond t (without p m) ((j ⟼ w) ∷ without p m)) (p w)
       (λ _. ap (remove-all (keys-where p m)) (remove-head j w m (a .0) (a .1)) ∙ remove-all-is m (a .1))
       (λ _. remove-all-skip (keys-where p m) j w m (keys-above j m (a .0) (a .1)) ∙ ap (λ (l : Map A). (j ⟼ w) ∷ l) (remove-all-is m (a .1)))
+
+-- in whatever order the keys stand
+module _ {A : Type 0} where
+  remove-turned : (i k : Text) (m : Map A) → remove i (remove k m) ≡ remove k (remove i m)
+  unfolding remove
+  remove-turned i k [] = refl
+  remove-turned i k ((j ⟼ w) ∷ m) =
+      by-test (λ a. same i j ≡ a → remove i (cond (same k j) (remove k m) ((j ⟼ w) ∷ remove k m)) ≡ remove k (cond a (remove i m) ((j ⟼ w) ∷ remove i m))) (same i j)
+      (λ _ e. by-test (λ b. remove i (cond b (remove k m) ((j ⟼ w) ∷ remove k m)) ≡ remove k (remove i m)) (same k j)
+      (λ _. remove-turned i k m) (λ _. rw e (remove-turned i k m)))
+      (λ _ e. by-test (λ b. same k j ≡ b → remove i (cond b (remove k m) ((j ⟼ w) ∷ remove k m)) ≡ cond b (remove k (remove i m)) ((j ⟼ w) ∷ remove k (remove i m))) (same k j)
+      (λ _ _. remove-turned i k m) (λ _ _. rw e (ap (λ (l : Map A). (j ⟼ w) ∷ l) (remove-turned i k m))) refl) refl
+
+  pub remove-all-rearranged : {ks js : List Text} → Rearranged ks js → (m : Map A) → remove-all ks m ≡ remove-all js m
+  unfolding remove-all
+  remove-all-rearranged no-keys m = refl
+  remove-all-rearranged (keep k r) m = remove-all-rearranged r (remove k m)
+  remove-all-rearranged (swap i k ks) m = ap (remove-all ks) (remove-turned k i m)
+  remove-all-rearranged (then r q) m = remove-all-rearranged r m ∙ remove-all-rearranged q m

@@ -1,17 +1,15 @@
--- Strictly ascending maps: `insert` and `remove` keep them so.
+-- Strictly ascending maps: `insert` and `remove` keep them so, and any two entries stand in order.
 -- Assumes nothing.
-use Prim.Native.Nat.{suc, _≤_}
 use mathlib.Core.Path.{_≡_, refl, sym, _∙_, ap, subst}
 use mathlib.Core.List.{List, [], _∷_}
-use mathlib.Core.Bool.{Bool, cond}
+use mathlib.Core.Bool.{cond}
 use mathlib.Core.Option.{Option, none, some}
-use native.Mathlib.Omega.{arith}
-use lib.ListN.{length}
 use Rattle.text.specs.Order.{orderOf}
 use Rattle.text.specs.OrderLaws.{flip, order-flip, order-equal, order-trans}
 use Rattle.text.specs.declared.Order.the-variants.{Less, Equal, Greater}
-use Rattle.state.specs.Maps.{Text, same, side, Map, _⟼_, insert, remove, remove-all, keys-where}
+use Rattle.state.specs.Maps.{Text, same, Every, side, Entry, Map, _⟼_, key-of, insert, remove, remove-all}
 use Rattle.state.specs.MapLaws.{by-test}
+use Rattle.state.specs.Sort.{Pairs}
 
 abbrev pub Below : {A : Type 0} → Text → Map A → Type 0
 Below k [] = Unit {0}
@@ -20,6 +18,12 @@ Below k ((j ⟼ w) ∷ m) = orderOf k j ≡ Less
 abbrev pub Ascending : {A : Type 0} → Map A → Type 0
 Ascending [] = Unit {0}
 Ascending ((k ⟼ v) ∷ m) = Below k m × Ascending m
+
+-- texts, each above the one before
+abbrev pub Rising : Option Text → List Text → Type 0
+Rising j [] = Unit {0}
+Rising none (k ∷ ks) = Rising (some k) ks
+Rising (some j) (k ∷ ks) = (orderOf j k ≡ Less) × Rising (some k) ks
 
 module _ {A : Type 0} where
   pub below-trans : (k j : Text) (m : Map A) → orderOf k j ≡ Less → Below j m → Below k m
@@ -57,27 +61,15 @@ module _ {A : Type 0} where
     | Greater ↦ λ e. (below-insert j k v m (order-flip k j ∙ ap flip e) (s .0), insert-ascending k v m (s .1))
   ]) refl
 
--- THE KEYS that a test picks, in their order: each above the one before, and no more than there are entries
-abbrev pub Rising : Option Text → List Text → Type 0
-Rising j [] = Unit {0}
-Rising none (k ∷ ks) = Rising (some k) ks
-Rising (some j) (k ∷ ks) = (orderOf j k ≡ Less) × Rising (some k) ks
+-- ANY TWO ENTRIES stand in the order of their keys
+abbrev pub InOrder : {A : Type 0} → Entry A → Entry A → Type 0
+InOrder x y = orderOf (key-of x) (key-of y) ≡ Less
 
-module _ {A : Type 0} (p : A → Bool) where
-  keys-above : (j : Text) (m : Map A) → Below j m → Ascending m → Rising (some j) (keys-where p m)
-  unfolding keys-where
-  keys-above j [] b s = tt
-  keys-above j ((k ⟼ v) ∷ m) b s = by-test (λ t. Rising (some j) (cond t (k ∷ keys-where p m) (keys-where p m))) (p v)
-      (λ _. (b, keys-above k m (s .0) (s .1))) (λ _. keys-above j m (below-trans j k m b (s .0)) (s .1))
+module _ {A : Type 0} where
+  above-all : (k : Text) (v : A) (m : Map A) → Below k m → Ascending m → Every (InOrder (k ⟼ v)) m
+  above-all k v [] b s = tt
+  above-all k v ((j ⟼ w) ∷ m) b s = (b, above-all k v m (below-trans k j m b (s .0)) (s .1))
 
-  pub keys-rising : (m : Map A) → Ascending m → Rising none (keys-where p m)
-  unfolding keys-where
-  keys-rising [] s = tt
-  keys-rising ((k ⟼ v) ∷ m) s = by-test (λ t. Rising none (cond t (k ∷ keys-where p m) (keys-where p m))) (p v)
-      (λ _. keys-above k m (s .0) (s .1)) (λ _. keys-rising m (s .1))
-
-  pub keys-few : (m : Map A) → length (keys-where p m) ≤ length m
-  unfolding keys-where
-  keys-few [] = omega arith
-  keys-few ((k ⟼ v) ∷ m) = by-test (λ t. length (cond t (k ∷ keys-where p m) (keys-where p m)) ≤ suc (length m)) (p v)
-      (λ _. omega (arith, keys-few m)) (λ _. omega (arith, keys-few m))
+  pub in-order : (m : Map A) → Ascending m → Pairs InOrder m
+  in-order [] s = tt
+  in-order ((k ⟼ v) ∷ m) s = (above-all k v m (s .0) (s .1), in-order m (s .1))

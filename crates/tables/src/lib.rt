@@ -1,9 +1,10 @@
 // Records and tables of bytes that were checked before: hops by length bytes, lookup by id.
 ghost use mathlib.Core.Path.{_≡_};
-ghost use Prim.Native.Nat.{ℕ, _+_, _-_, _≤_, _<_, min};
+ghost use Prim.Native.Nat.{_+_, _-_, _≤_, _<_};
 ghost use lib.ListN.{length, take, drop};
 ghost use Rattle.fields.specs.Codes.{hop, hops, hop-set, absent-codes, past, passed, skip, codeOf, codesOf};
 ghost use Rattle.fields.specs.Walks.{placeOf};
+ghost use Rattle.parts.specs.Digits.{value};
 ghost use Rattle.parts.specs.Gather.{run};
 ghost use Rattle.tables.specs.Skips.{left-over, past-over};
 ghost use Rattle.tables.specs.Seek.{seek, placed, row-of};
@@ -176,4 +177,11 @@ pub fn find<'a>(codes: &[u8], s: &'a [u8], at: usize, n: usize, id: &[u8]) -> &'
     ensures { λ r. ⌜ now r ≡ row-of (seek (codesOf (now (codes .entry))) n (now (id .entry)) (drop at (now (s .entry)))) ⌝ }
 {
     row(s, locate(codes, s, at, n, id))
+}
+
+// The number that stands in the record at a place behind some of its fields.
+pub fn number_after(before: &[u8], s: &[u8], at: usize) -> u64
+    ensures { λ r. ⌜ r ≡ value (take 8 (skip 0 (codesOf (now (before .entry))) (drop at (now (s .entry))))) ⌝ }
+{
+    parts::u64_at(s, skip_record(before, s, at))
 }

@@ -6,7 +6,7 @@ use Rattle.next.specs.Added.{front-gathers}
 use Rattle.machine.specs.Actions.{LeasesExpired}
 use Rattle.machine.specs.Next.{expired, clock-advanced}
 use Rattle.next.specs.Call.{refused, done}
-use Rattle.clock.specs.Advance.{other-tick, back, onward, expiredAt, count-low, image-low, advance-small, advance-told, advance-tables, advance-shows}
+use Rattle.clock.specs.Advance.{other-tick, back, onward, ended-of, count-low, image-low, advance-small, advance-stand, advance-told, advance-tables, advance-shows}
 use Rattle.next.specs.declared.PublicationOutcome.{PublicationOutcome}
 use borrow.Author.Needs.{needs}
 use Rattle.clock.proofs.advance_lease_clock.Statement.{statement}
@@ -64,7 +64,9 @@ part-emit-end : tie.Need-part-emit-end
 part-emit-end c = omega (arith, count-low (c .before .before .before .before .before .before .before .before .before .before .before .before .before .before .before .before .before .before .before .before .before .pre))
 
 emit-requires : tie.Need-emit-requires
-emit-requires c κs = (advance-small (c .before .before .before .before .before .before .before .before .before .before .before .before .before .before .before .before .before .before .before .before .before .before .before .before .pre) ((c .before .before .before .before .before .before .before .before .before .before .before .before .policy-for) .result) ((c .before .before .before .before .before .before .before .before .before .before .before .count-rows) .ensures) ((c .before .before .before .before .before .before .with-leases) .ensures), count-low (c .before .before .before .before .before .before .before .before .before .before .before .before .before .before .before .before .before .before .before .before .before .before .before .before .pre))
+emit-requires c κs =
+    let ready = (c .before .before .before .before .before .before .before .before .before .before .before .before .before .before .before .before .before .before .before .before .before .before .before .before .pre) in
+    (advance-small ready ((c .before .before .before .before .before .before .before .before .before .before .before .before .policy-for) .result) ((c .before .before .before .before .before .before .before .before .before .before .before .count-rows) .ensures) ((c .before .before .before .before .before .before .with-leases) .ensures), advance-stand ready)
 
 same-length : tie.Need-same-length
 same-length c = search needs
@@ -73,12 +75,19 @@ same-length-2 : tie.Need-same-length-2
 same-length-2 c = search needs
 
 returns-3 : tie.Need-returns-3
-returns-3 c = done (c .before .before .before .before .before .before .before .before .before .before .before .before .before .before .before .before .before .before .before .before .before .before .before .before .before .before .before .before .before .pre) (clock-advanced ((c .before .before .before .before .before .before .before .before .before .before .before .before .before .before .before .before .before .before .before .before .before .before .before .before .before .before .before .before .before .pre) .state) ((c .before .before .before .before .before .before .before .before .before .before .before .before .before .before .before .before .before .before .before .before .before .before .before .before .before .before .before .before .before .args) .a .«next_tick») ((c .before .before .before .before .before .before .before .before .before .before .before .before .before .before .before .before .before .before .before .before .before .before .before .before .before .before .before .before .before .args) .f .«omit_lease_root_epoch»)) (LeasesExpired (expired ((c .before .before .before .before .before .before .before .before .before .before .before .before .before .before .before .before .before .before .before .before .before .before .before .before .before .before .before .before .before .pre) .state) ((c .before .before .before .before .before .before .before .before .before .before .before .before .before .before .before .before .before .before .before .before .before .before .before .before .before .before .before .before .before .args) .a .«next_tick»))) 0 ((c .before .before .before .before .before .before .before .before .before .before .before .with-leases) .result)
-    (take (3 * (((c .before .before .before .before .before .before .before .before .before .before .before .before .before .before .before .before .before .before .before .before .before .before .before .before .before .before .before .before .before .args) .c .leases .count) + 2) - 0) (drop 0 ((c .before .before .before .before .before .before .before .before .before .before .body-parts) .result))) ((c .before .before .before .before .before .before .before .before .before .before .before .before .before .before .before .before .before .before .before .before .before .before .before .before .before .before .before .before .before .args) .image .now) (PublicationOutcome.LeasesExpired (expiredAt ((c .before .before .before .before .before .before .before .before .before .before .before .before .before .before .before .before .before .before .before .before .before .before .before .before .before .before .before .before .before .args) .c) ((c .before .before .before .before .before .before .before .before .before .before .before .before .before .before .before .before .before .before .before .before .before .before .before .before .before .before .before .before .before .args) .a .«next_tick») ((c .before .before .before .before .before .before .before .before .before .before .before .before .before .before .before .before .count-rows) .result .ended)))
-    (onward (c .before .before .before .before .before .before .before .before .before .before .before .before .before .before .before .before .before .before .before .before .before .before .before .before .before .before .before .before .before .pre) ((c .before .before .before .before .before .before .before .before .before .before .before .before .before .before .before .before .before .before .before .before .if1) .left) ((c .before .before .before .before .before .before .before .before .before .before .before .before .before .before .before .before .before .before .if2) .left))
-    (advance-shows (c .before .before .before .before .before .before .before .before .before .before .before .before .before .before .before .before .before .before .before .before .before .before .before .before .before .before .before .before .before .pre) _ _ _ _ _ _ ((c .before .before .before .before .before .before .before .before .before .before .before .before .before .before .before .before .before .policy-for) .ensures) ((c .before .before .before .before .before .before .before .before .before .before .before .before .before .before .before .before .count-rows) .ensures) ((c .before .before .before .before .before .before .before .before .before .before .before .before .before .before .before .up-if) .ensures) ((c .before .before .before .before .before .before .before .before .before .before .before .before .before .before .root-after) .ensures) ((c .before .before .before .before .before .before .before .before .before .before .before .before .before .readable-for) .ensures) ((c .before .before .before .before .before .before .before .before .before .before .before .before .less) .ensures) _ ((c .before .before .before .before .before .before .before .before .before .before .before .with-leases) .ensures))
-    (front-gathers ((c .before .before .before .before .before .before .before .before .before .before .before .before .before .before .before .before .before .before .before .before .before .before .before .before .before .before .before .before .before .args) .image .now) ((c .before .before .before .before .before .before .before .before .before .before .before .before .before .before .before .before .before .before .before .before .before .before .before .before .before .before .before .before .before .args) .request .now) _ _ ((c .before .before .before .before .before .before .before .before .before .before .body-parts) .ensures .1) ∙ advance-tables (c .before .before .before .before .before .before .before .before .before .before .before .before .before .before .before .before .before .before .before .before .before .before .before .before .before .before .before .before .before .pre) ((c .before .before .before .before .before .before .before .before .before .before .body-parts) .ensures .0))
-    (advance-told (c .before .before .before .before .before .before .before .before .before .before .before .before .before .before .before .before .before .before .before .before .before .before .before .before .before .before .before .before .before .pre) ((c .before .before .before .before .before .before .before .before .before .before .before .before .before .before .before .before .before .policy-for) .result) ((c .before .before .before .before .before .before .before .before .before .before .before .before .before .before .before .before .count-rows) .ensures))
+returns-3 c =
+    let ready = (c .before .before .before .before .before .before .before .before .before .before .before .before .before .before .before .before .before .before .before .before .before .before .before .before .before .before .before .before .before .pre) in
+    let g = (c .before .before .before .before .before .before .before .before .before .before .before .before .before .before .before .before .before .before .before .before .before .before .before .before .before .before .before .before .before .args) in
+    let t = (c .before .before .before .before .before .before .before .before .before .before .before .before .before .before .before .before .count-rows) in
+    let body = (c .before .before .before .before .before .before .before .before .before .before .body-parts) in
+    let c2 = (c .before .before .before .before .before .before .before .before .before .before .before .with-leases) in
+    let count = g .c .leases .count in
+    let next = clock-advanced (ready .state) (g .a .«next_tick») (g .f .«omit_lease_root_epoch») in
+    done ready next (LeasesExpired (expired (ready .state) (g .a .«next_tick»))) 0 (c2 .result) (take (3 * (count + 2) - 0) (drop 0 (body .result))) (g .image .now) (PublicationOutcome.LeasesExpired (ended-of (g .c) (g .a .«next_tick»)))
+    (onward ready ((c .before .before .before .before .before .before .before .before .before .before .before .before .before .before .before .before .before .before .before .before .if1) .left) ((c .before .before .before .before .before .before .before .before .before .before .before .before .before .before .before .before .before .before .if2) .left))
+    (advance-shows ready _ _ _ _ _ _ ((c .before .before .before .before .before .before .before .before .before .before .before .before .before .before .before .before .before .policy-for) .ensures) (t .ensures) ((c .before .before .before .before .before .before .before .before .before .before .before .before .before .before .before .up-if) .ensures) ((c .before .before .before .before .before .before .before .before .before .before .before .before .before .before .root-after) .ensures) ((c .before .before .before .before .before .before .before .before .before .before .before .before .before .readable-for) .ensures) ((c .before .before .before .before .before .before .before .before .before .before .before .before .less) .ensures) _ (c2 .ensures))
+    (front-gathers (g .image .now) (g .request .now) (count + 2) (count + 2) _ (omega arith) (body .ensures .1) ∙ advance-tables ready (body .ensures .0))
+    (advance-told ready)
     ((c .before .before .before .before .emit) .ensures)
 
 pub advance-lease-clock-spec : {M : Type 1} → statement M

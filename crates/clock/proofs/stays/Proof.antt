@@ -4,7 +4,7 @@ use mathlib.Core.Bool.{cond}
 use mathlib.Core.List.{[]}
 use native.Mathlib.Omega.{arith}
 use lib.ListN.{drop}
-use Rattle.next.specs.Due.{due}
+use Rattle.expiry.specs.Due.{due}
 use Rattle.next.specs.Added.{Adding, adding-start, adding-on, adding-end}
 use Rattle.clock.specs.Due.{rowOf, keptBytes}
 use Rattle.clock.specs.Parts.{kept-more, kept-run, kept-none}

@@ -1,5 +1,5 @@
 use mathlib.Core.Path.{sym, _∙_, ap}
-use Rattle.fields.specs.Format.{is-less}
+use Rattle.state.specs.Maps.{is-less}
 use Rattle.fields.proofs.WalkSteps.{follows-first, follows-later}
 use borrow.Author.Needs.{needs}
 use Rattle.fields.proofs.follows.Statement.{statement}

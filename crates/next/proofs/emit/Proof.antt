@@ -1,5 +1,4 @@
 use native.Mathlib.Omega.{arith}
-use Rattle.next.specs.Added.{front-gathers}
 use mathlib.Core.Path.{ap, sym, _∙_, subst}
 use Rattle.parts.specs.Gather.{gatherOf}
 use Rattle.next.specs.Emit.{emitted}
@@ -78,10 +77,10 @@ expired-parts-requires : tie.Need-expired-parts-requires
 expired-parts-requires c κs = subst (Fits ((c .before .before .before .before .before .before .before .before .before .before .before .args) .stored .now) ((c .before .before .before .before .before .before .before .before .before .before .before .args) .request .now)) ((c .before .o4) .given .1) ((c .before .before .before .before .before .before .before .before .before .before .before .pre) .1)
 
 add-used : tie.Need-add-used
-add-used c = omega (arith, subst (Fits ((c .before .before .before .before .before .before .before .before .before .before .before .before .before .args) .stored .now) ((c .before .before .before .before .before .before .before .before .before .before .before .before .before .args) .request .now)) ((c .before .before .before .o4) .given .1) ((c .before .before .before .before .before .before .before .before .before .before .before .before .before .pre) .1))
+add-used c = omega (arith, (subst (Fits ((c .before .before .before .before .before .before .before .before .before .before .before .before .before .args) .stored .now) ((c .before .before .before .before .before .before .before .before .before .before .before .before .before .args) .request .now)) ((c .before .before .before .o4) .given .1) ((c .before .before .before .before .before .before .before .before .before .before .before .before .before .pre) .1)) .few)
 
 mul-used : tie.Need-mul-used
-mul-used c = omega (arith, subst (Fits ((c .before .before .before .before .before .before .before .before .before .before .before .before .before .args) .stored .now) ((c .before .before .before .before .before .before .before .before .before .before .before .before .before .args) .request .now)) ((c .before .before .before .o4) .given .1) ((c .before .before .before .before .before .before .before .before .before .before .before .before .before .pre) .1))
+mul-used c = omega (arith, (subst (Fits ((c .before .before .before .before .before .before .before .before .before .before .before .before .before .args) .stored .now) ((c .before .before .before .before .before .before .before .before .before .before .before .before .before .args) .request .now)) ((c .before .before .before .o4) .given .1) ((c .before .before .before .before .before .before .before .before .before .before .before .before .before .pre) .1)) .few)
 
 slice-aggregate-emit-9 : tie.Need-slice-aggregate-emit-9
 slice-aggregate-emit-9 c = search needs
@@ -93,7 +92,7 @@ part-emit-start : tie.Need-part-emit-start
 part-emit-start c = search needs
 
 part-emit-end : tie.Need-part-emit-end
-part-emit-end c = omega (arith, subst (Fits ((c .before .before .before .before .before .before .before .before .before .before .before .before .before .before .before .args) .stored .now) ((c .before .before .before .before .before .before .before .before .before .before .before .before .before .before .before .args) .request .now)) ((c .before .before .before .before .before .o4) .given .1) ((c .before .before .before .before .before .before .before .before .before .before .before .before .before .before .before .pre) .1))
+part-emit-end c = omega (arith, (subst (Fits ((c .before .before .before .before .before .before .before .before .before .before .before .before .before .before .before .args) .stored .now) ((c .before .before .before .before .before .before .before .before .before .before .before .before .before .before .before .args) .request .now)) ((c .before .before .before .before .before .o4) .given .1) ((c .before .before .before .before .before .before .before .before .before .before .before .before .before .before .before .pre) .1)) .few)
 
 emit-requires-5 : tie.Need-emit-requires-5
 emit-requires-5 c κs = search needs
@@ -171,7 +170,7 @@ same-length-10 : tie.Need-same-length-10
 same-length-10 c = search needs
 
 returns-5 : tie.Need-returns-5
-returns-5 c = emitted ((c .before .before .before .before .before .before .before .before .before .before .before .before .before .before .before .before .before .before .before .before .before .before .before .args) .image .now) ((c .before .before .before .before .before .before .before .before .before .before .before .before .before .before .before .before .before .before .before .before .before .before .before .args) .request .now) ((c .before .before .before .before .before .before .before .before .before .before .before .before .before .before .before .before .before .before .before .before .before .before .before .args) .body .now) _ _ _ _ _ _ _ _ _ _ _ ((c .before .before .before .before .before .before .before .before .before .before .before .before .before .before .before .over-limit) .ensures) ((c .before .before .before .before .before .before .before .before .before .before .before .before .before .before .before .before .head) .ensures) (front-gathers ((c .before .before .before .before .before .before .before .before .before .before .before .before .before .before .before .before .before .before .before .before .before .before .before .args) .stored .now) ((c .before .before .before .before .before .before .before .before .before .before .before .before .before .before .before .before .before .before .before .before .before .before .before .args) .request .now) _ _ ((c .before .before .before .before .before .before .before .before .before .before .before .expired-parts) .ensures .1) ∙ (c .before .before .before .before .before .before .before .before .before .before .before .expired-parts) .ensures .0 .gathers ((c .before .before .before .before .before .before .before .before .before .before .before .before .before .before .before .before .before .before .before .before .before .before .before .args) .request .now) ∙ ap (outcomeBytes ((c .before .before .before .before .before .before .before .before .before .before .before .before .before .before .before .before .before .before .before .before .before .before .before .args) .stored .now) ((c .before .before .before .before .before .before .before .before .before .before .before .before .before .before .before .before .before .before .before .before .before .before .before .args) .request .now)) (sym ((c .before .before .before .before .before .before .before .before .before .before .before .before .before .o4) .given .1))) ((c .before .before .before .before .emit5) .ensures)
+returns-5 c = emitted ((c .before .before .before .before .before .before .before .before .before .before .before .before .before .before .before .before .before .before .before .before .before .before .before .args) .image .now) ((c .before .before .before .before .before .before .before .before .before .before .before .before .before .before .before .before .before .before .before .before .before .before .before .args) .request .now) ((c .before .before .before .before .before .before .before .before .before .before .before .before .before .before .before .before .before .before .before .before .before .before .before .args) .body .now) _ _ _ _ _ _ _ _ _ _ _ ((c .before .before .before .before .before .before .before .before .before .before .before .before .before .before .before .over-limit) .ensures) ((c .before .before .before .before .before .before .before .before .before .before .before .before .before .before .before .before .head) .ensures) ((c .before .before .before .before .before .before .before .before .before .before .before .expired-parts) .ensures .told ((c .before .before .before .before .before .before .before .before .before .before .before .before .before .before .before .before .before .before .before .before .before .before .before .args) .request .now) ∙ ap (outcomeBytes ((c .before .before .before .before .before .before .before .before .before .before .before .before .before .before .before .before .before .before .before .before .before .before .before .args) .stored .now) ((c .before .before .before .before .before .before .before .before .before .before .before .before .before .before .before .before .before .before .before .before .before .before .before .args) .request .now)) (sym ((c .before .before .before .before .before .before .before .before .before .before .before .before .before .o4) .given .1))) ((c .before .before .before .before .emit5) .ensures)
 
 same-length-11 : tie.Need-same-length-11
 same-length-11 c = search needs
