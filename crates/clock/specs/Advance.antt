@@ -28,7 +28,7 @@ use Rattle.image.specs.Stored.{leases-stored}
 use Rattle.image.specs.declared.Contents.{Contents}
 use Rattle.machine.specs.Actions.{AdvanceLeaseClock, Transition, rejected, accepted, decide, LeasesExpired}
 use Rattle.machine.specs.Machine.{act, advance-lease-clock}
-use Rattle.machine.specs.Next.{up, oldest, moved, ended, expired, clock-advanced}
+use Rattle.machine.specs.Next.{up, oldest, ends-by, moved, ended, expired, clock-advanced}
 use Rattle.machine.specs.ExpiredLaws.{expired-rearranged, expired-count}
 use Rattle.entries.specs.Sized.{well-formed}
 use Rattle.requests.specs.Outcome.{encodeOutcome}
@@ -49,7 +49,7 @@ use Rattle.next.specs.declared.PublicationOutcome.{PublicationOutcome}
 use Rattle.floor.specs.Floors.{policyFor, readableFor}
 use Rattle.leases.specs.Oldest.{oldestKept}
 use Rattle.leases.specs.Leased.{withLeases, Recomputed, recomputed, small-leases, table-count-low}
-use Rattle.clock.specs.Due.{keptBytes, endedCount, ends-by, kept-rows, count-rows, oldest-rows, rows-leases, rows-whole, rows-by-id}
+use Rattle.clock.specs.Due.{keptBytes, endedCount, kept-rows, count-rows, oldest-rows, rows-leases, rows-whole, rows-by-id}
 use Rattle.clock.specs.Tallies.{tallyOf}
 use Rattle.clock.specs.Parts.{BodyIs}
 use Rattle.clock.specs.declared.Tally.{Tally}

@@ -1,7 +1,7 @@
 -- Which leases end, row by row: what stays of the table, and how many end; and that the rows of a map of leases are its leases.
 use Prim.Native.Nat.{ℕ, suc, _+_, _-_, _≤_, min}
 use native.Mathlib.Omega.{arith}
-use mathlib.Core.Bool.{Bool, cond}
+use mathlib.Core.Bool.{cond}
 use mathlib.Core.List.{List, [], _∷_, _++_, map, append-assoc}
 use mathlib.Core.Path.{_≡_, refl, sym, ap, _∙_, subst}
 use lib.Dec.{leb}
@@ -24,7 +24,7 @@ use Rattle.tables.specs.SeekLaws.{Hopped, tails}
 use Rattle.image.specs.Shapes.{lease, lease-rest, lease-parts, lease-of}
 use Rattle.image.specs.Tables.{lease-row, kept}
 use Rattle.machine.specs.Formed.{LeaseAt}
-use Rattle.machine.specs.Next.{oldest}
+use Rattle.machine.specs.Next.{ends-by, oldest}
 use Rattle.entries.specs.Sized.{image-texts}
 use Rattle.expiry.specs.Due.{due, next-is, rest-low}
 use Rattle.requests.specs.Peek.{peek, peek-dec}
@@ -61,11 +61,8 @@ module _ (s : List ℕ) (p q : ℕ) (e : q ≡ placeOf s (skip 0 (codesOf (64 �
 -- ---- on the rows of a map
 
 module _ (tick : ℕ) where
-  abbrev pub ends-by : SnapshotLeaseToken → Bool
-  ends-by t = leb (t .deadline-tick) tick
-
   module _ (j : Text) (t : SnapshotLeaseToken) (l : List ℕ) (h : LeaseAt image-texts j t) (o : Hopped (codes lease) lease-row key-of (j ⟼ t)) where
-    due-is : due tick (lease-row (j ⟼ t) ++ l) ≡ ends-by t
+    due-is : due tick (lease-row (j ⟼ t) ++ l) ≡ ends-by tick t
     due-is = ap (λ (n : ℕ). leb n tick) (deadline-row t l (h .1 .1 .1 .1 .1 .1 .1 .0))
 
     row-is : rowOf (lease-row (j ⟼ t) ++ l) ≡ lease-row (j ⟼ t)
@@ -75,29 +72,29 @@ module _ (tick : ℕ) where
     abbrev rows : Map SnapshotLeaseToken → List (List ℕ)
     rows m = tails (codes lease) lease-row key-of m r
 
-    pub kept-rows : (m : Map SnapshotLeaseToken) → Each (LeaseAt image-texts) m → Every (Hopped (codes lease) lease-row key-of) m → keptBytes tick (rows m) ≡ kept lease-row ends-by m
+    pub kept-rows : (m : Map SnapshotLeaseToken) → Each (LeaseAt image-texts) m → Every (Hopped (codes lease) lease-row key-of) m → keptBytes tick (rows m) ≡ kept lease-row (ends-by tick) m
     unfolding keptBytes kept tails
     kept-rows [] h o = refl
     kept-rows ((j ⟼ t) ∷ m) h o =
         let l : List ℕ = all lease-row m ++ r in
         (λ i. cond (due-is j t l (h .0) (o .0) i) [] (row-is j t l (h .0) (o .0) i) ++ kept-rows m (h .1) (o .1) i)
-        ∙ by-test (λ b. cond b [] (lease-row (j ⟼ t)) ++ kept lease-row ends-by m ≡ cond b (kept lease-row ends-by m) (lease-row (j ⟼ t) ++ kept lease-row ends-by m)) (ends-by t) (λ _. refl) (λ _. refl)
+        ∙ by-test (λ b. cond b [] (lease-row (j ⟼ t)) ++ kept lease-row (ends-by tick) m ≡ cond b (kept lease-row (ends-by tick) m) (lease-row (j ⟼ t) ++ kept lease-row (ends-by tick) m)) (ends-by tick t) (λ _. refl) (λ _. refl)
 
-    pub count-rows : (m : Map SnapshotLeaseToken) → Each (LeaseAt image-texts) m → Every (Hopped (codes lease) lease-row key-of) m → endedCount tick (rows m) ≡ length (entries-where ends-by m)
+    pub count-rows : (m : Map SnapshotLeaseToken) → Each (LeaseAt image-texts) m → Every (Hopped (codes lease) lease-row key-of) m → endedCount tick (rows m) ≡ length (entries-where (ends-by tick) m)
     unfolding endedCount select tails
     count-rows [] h o = refl
     count-rows ((j ⟼ t) ∷ m) h o =
         let l : List ℕ = all lease-row m ++ r in
         (λ i. cond (due-is j t l (h .0) (o .0) i) (suc (count-rows m (h .1) (o .1) i)) (count-rows m (h .1) (o .1) i))
-        ∙ by-test (λ b. cond b (suc (length (entries-where ends-by m))) (length (entries-where ends-by m)) ≡ length (cond b ((j ⟼ t) ∷ entries-where ends-by m) (entries-where ends-by m))) (ends-by t) (λ _. refl) (λ _. refl)
+        ∙ by-test (λ b. cond b (suc (length (entries-where (ends-by tick) m))) (length (entries-where (ends-by tick) m)) ≡ length (cond b ((j ⟼ t) ∷ entries-where (ends-by tick) m) (entries-where (ends-by tick) m))) (ends-by tick t) (λ _. refl) (λ _. refl)
 
-    pub oldest-rows : (floor : ℕ) (m : Map SnapshotLeaseToken) → Each (LeaseAt image-texts) m → Every (Hopped (codes lease) lease-row key-of) m → oldestKept (due tick) floor (rows m) ≡ oldest floor (without ends-by m)
+    pub oldest-rows : (floor : ℕ) (m : Map SnapshotLeaseToken) → Each (LeaseAt image-texts) m → Every (Hopped (codes lease) lease-row key-of) m → oldestKept (due tick) floor (rows m) ≡ oldest floor (without (ends-by tick) m)
     unfolding oldestKept oldest without tails
     oldest-rows floor [] h o = refl
     oldest-rows floor ((j ⟼ t) ∷ m) h o =
         let l : List ℕ = all lease-row m ++ r in
         (λ i. cond (due-is j t l (h .0) (o .0) i) (oldest-rows floor m (h .1) (o .1) i) (min (version-row t l (h .0 .1 .1 .1 .0) i) (oldest-rows floor m (h .1) (o .1) i)))
-        ∙ by-test (λ b. cond b (oldest floor (without ends-by m)) (min (t .snapshot-version) (oldest floor (without ends-by m))) ≡ oldest floor (cond b (without ends-by m) ((j ⟼ t) ∷ without ends-by m))) (ends-by t) (λ _. refl) (λ _. refl)
+        ∙ by-test (λ b. cond b (oldest floor (without (ends-by tick) m)) (min (t .snapshot-version) (oldest floor (without (ends-by tick) m))) ≡ oldest floor (cond b (without (ends-by tick) m) ((j ⟼ t) ∷ without (ends-by tick) m))) (ends-by tick t) (λ _. refl) (λ _. refl)
 
 -- THE ROWS OF A MAP: the leases of the map, by id, each with its whole id
 module _ (r : List ℕ) where

@@ -6,7 +6,7 @@ use native.Mathlib.Omega.{arith}
 use mathlib.Core.Path.{_≡_, refl, sym, ap, _∙_, subst}
 use mathlib.Core.Bool.{Bool, true, false, _&&_, _||_}
 use mathlib.Core.List.{List}
-use lib.Dec.{leb, ltb, eqb}
+use lib.Dec.{ltb, eqb}
 use lib.ListN.{length, length-map}
 use borrow.Author.Tests.{lt-ltb, eq-eqb, ltb-true, eqb-true}
 use Rattle.text.specs.Order.{orderOf}
@@ -19,7 +19,7 @@ use Rattle.state.specs.Sorted.{Ascending, InOrder, in-order}
 use Rattle.state.specs.Sort.{Rearranged, Pairs, Differ}
 use Rattle.state.specs.SortLaws.{rearranged-back, rearranged-length, rearranged-map, rearranged-pairs, pairs-map, pairs-weaker, select-few, pairs-select, sort-rearranged, Apart, Before, sort-ascends}
 use Rattle.state.specs.Records.{SnapshotLeaseToken, State}
-use Rattle.machine.specs.Next.{ran-out-before, ended, expired}
+use Rattle.machine.specs.Next.{ends-by, ran-out-before, ended, expired}
 
 -- A LEASE RAN OUT BEFORE ANOTHER, by one of three
 pub data Sooner (d e : ℕ) (i : Text) (d′ e′ : ℕ) (j : Text) : Type 0 where
@@ -118,35 +118,32 @@ ran-out-told (i ⟼ a) (j ⟼ b) r = tested (a .deadline-tick) (a .lease-epoch) 
 
 -- THE IDS THAT A TICK ENDS
 module _ (s : State) (tick : ℕ) where
-  abbrev pub ends : SnapshotLeaseToken → Bool
-  ends lease = leb (lease .deadline-tick) tick
-
   -- the list that the Rust gives, in the order of ids
   abbrev pub listed-by-id : List Text
-  listed-by-id = keys-where ends (s .leases)
+  listed-by-id = keys-where (ends-by tick) (s .leases)
 
   -- THEY ARE THOSE OF THE RUST, each as often
   pub expired-rearranged : Rearranged (expired s tick) listed-by-id
-  expired-rearranged = rearranged-map key-of (sort-rearranged ran-out-before (entries-where ends (s .leases)))
+  expired-rearranged = rearranged-map key-of (sort-rearranged ran-out-before (entries-where (ends-by tick) (s .leases)))
 
-  pub expired-count : length (expired s tick) ≡ length (entries-where ends (s .leases))
-  expired-count = length-map (ended tick (s .leases)) key-of ∙ rearranged-length (sort-rearranged ran-out-before (entries-where ends (s .leases)))
+  pub expired-count : length (expired s tick) ≡ length (entries-where (ends-by tick) (s .leases))
+  expired-count = length-map (ended tick (s .leases)) key-of ∙ rearranged-length (sort-rearranged ran-out-before (entries-where (ends-by tick) (s .leases)))
 
   pub expired-few : length (expired s tick) ≤ length (s .leases)
-  expired-few = omega (arith, expired-count, select-few (λ (e : Entry SnapshotLeaseToken). ends (value-of e)) (s .leases))
+  expired-few = omega (arith, expired-count, select-few (λ (e : Entry SnapshotLeaseToken). ends-by tick (value-of e)) (s .leases))
 
   module _ (up : Ascending (s .leases)) where
-    due-in-order : Pairs InOrder (entries-where ends (s .leases))
-    due-in-order = pairs-select (λ (e : Entry SnapshotLeaseToken). ends (value-of e)) InOrder (s .leases) (in-order (s .leases) up)
+    due-in-order : Pairs InOrder (entries-where (ends-by tick) (s .leases))
+    due-in-order = pairs-select (λ (e : Entry SnapshotLeaseToken). ends-by tick (value-of e)) InOrder (s .leases) (in-order (s .leases) up)
 
     -- EACH ONCE
     pub expired-once : Pairs Differ (expired s tick)
     expired-once =
         rearranged-pairs Differ (λ i j n e. n (sym e)) (rearranged-back expired-rearranged)
-        (pairs-map key-of Differ (entries-where ends (s .leases))
-        (pairs-weaker InOrder (λ x y. Differ (key-of x) (key-of y)) (λ x y. less-differ (key-of x) (key-of y)) (entries-where ends (s .leases)) due-in-order))
+        (pairs-map key-of Differ (entries-where (ends-by tick) (s .leases))
+        (pairs-weaker InOrder (λ x y. Differ (key-of x) (key-of y)) (λ x y. less-differ (key-of x) (key-of y)) (entries-where (ends-by tick) (s .leases)) due-in-order))
 
     -- THEY ASCEND STRICTLY by deadline, epoch and id: each ran out before all that stand behind it
     pub expired-ascends : Pairs RanOut (ended tick (s .leases))
-    expired-ascends = pairs-weaker (Before ran-out-before) RanOut ran-out (ended tick (s .leases)) (sort-ascends ran-out-before trans (entries-where ends (s .leases))
-        (pairs-weaker InOrder (Apart ran-out-before) (λ x y h. total x y (not-equal (orderOf (key-of x) (key-of y)) h)) (entries-where ends (s .leases)) due-in-order))
+    expired-ascends = pairs-weaker (Before ran-out-before) RanOut ran-out (ended tick (s .leases)) (sort-ascends ran-out-before trans (entries-where (ends-by tick) (s .leases))
+        (pairs-weaker InOrder (Apart ran-out-before) (λ x y h. total x y (not-equal (orderOf (key-of x) (key-of y)) h)) (entries-where (ends-by tick) (s .leases)) due-in-order))

@@ -6,7 +6,6 @@ use mathlib.Core.List.{List, [], _∷_}
 use mathlib.Core.Option.{Option, none, some}
 use mathlib.Core.Bool.{Bool, true, false, cond}
 use native.Mathlib.Omega.{arith}
-use lib.Dec.{leb}
 use Rattle.state.specs.Maps.{Text, Map, insert, remove, remove-all}
 use Rattle.state.specs.MapLaws.{each-insert, each-remove, each-remove-all, each-lookup, each-keys}
 use Rattle.state.specs.Sorted.{insert-ascending, remove-ascending, remove-all-ascending}
@@ -14,7 +13,7 @@ use Rattle.state.specs.SortLaws.{rearranged-back, rearranged-every}
 use Rattle.state.specs.Records.{AuthorityPosition, AuthorityContext, ObjectReference, PreparedPublication, SnapshotLeaseToken, CollectionJobToken, DeletePermit, PublicationAuthorityFaults, State, default}
 use Rattle.state.specs.Setters.{set-revision, set-root-intent-epoch, set-intents, set-roots, set-pins, set-deletion-reservations, set-observed-commit-frontier, set-retention-window, set-retention-policy-epoch, set-policy-floor, set-minimum-readable-version, set-physically-collected-through, set-lease-clock-tick, set-lease-epoch, set-leases, set-range-map-epoch, set-collection-root, set-collection-jobs}
 use Rattle.machine.specs.Actions.{Action, ObserveCommittedFrontier, SetRetentionWindow, ObserveRangeMapEpoch, ConfigureCollectionRoot, AcquireLease, RenewLease, ReleaseLease, AdvanceLeaseClock, PrepareCollection, PublishCollection, AbandonCollection, Prepare, Publish, Pin, Unpin, ReserveDelete, RetireDelete, Outcome, accepted, decide}
-use Rattle.machine.specs.Next.{up, policy-for, readable-for, moved, expired, recompute-read-floor, bump-root, bump-root-unless}
+use Rattle.machine.specs.Next.{up, policy-for, readable-for, ends-by, moved, expired, recompute-read-floor, bump-root, bump-root-unless}
 use Rattle.machine.specs.Machine.{observe-committed-frontier, set-retention-window as set-window, observe-range-map-epoch, configure-collection-root, acquire-lease, renew-lease, release-lease, advance-lease-clock, prepare-collection, publish-collection, abandon-collection, prepare, publish, pin, unpin, reserve-delete, retire-delete, act, rule, apply}
 use Rattle.machine.specs.Invariant.{oldest-floor}
 use Rattle.machine.specs.ApplyLaws.{Accepts, accepts, stamped}
@@ -166,7 +165,7 @@ module _ (T : Texts) where
         let root = either (f .omit-lease-root-epoch) _ _ (w .numbers .root-intent-epoch-fits) (moved-fits ids (s .root-intent-epoch) (w .numbers .root-intent-epoch-fits)) in (
           floored (keep-root-intent-epoch _ root (keep-lease-epoch _ (moved-fits ids (s .lease-epoch) (w .numbers .lease-epoch-fits)) (keep-leases _ (table-remove-all (LeaseAt T) ids (s .leases) (w .leases)) (keep-lease-clock-tick d (h .1) w)))),
           (
-            rearranged-every (T .Name) (rearranged-back (expired-rearranged s d)) (each-keys (LeaseAt T) (T .Name) (λ t. leb (t .deadline-tick) d) (λ j t g. subst (T .Name) (g .0) (g .1 .0)) (s .leases) (w .leases .each)),
+            rearranged-every (T .Name) (rearranged-back (expired-rearranged s d)) (each-keys (LeaseAt T) (T .Name) (ends-by d) (λ j t g. subst (T .Name) (g .0) (g .1 .0)) (s .leases) (w .leases .each)),
             expired-once s d (w .leases .ascending),
           ),
         )

@@ -6,7 +6,6 @@ use mathlib.Core.List.{List, [], _∷_}
 use mathlib.Core.Option.{Option, none, some}
 use mathlib.Core.Bool.{Bool, false, cond}
 use native.Mathlib.Omega.{arith}
-use lib.Dec.{leb}
 use borrow.Author.Tests.{ltb-false, leb-false, eqb-true, not-false}
 use Rattle.state.specs.Maps.{Text, Map, _⟼_, same, lookup, remove-all}
 use Rattle.state.specs.MapLaws.{no-way, option-clash, is-none, by-test, lookup-remove-all, found-insert, found-remove, any-value-false, keys-where-has}
@@ -14,7 +13,7 @@ use Rattle.state.specs.SortLaws.{rearranged-any}
 use Rattle.state.specs.Records.{AuthorityContext, no-faults, State, SnapshotClosure, SnapshotLeaseToken, CollectionJobToken, ObjectReference, PublicationIntent, CollectionReceipt, DeletePermit, ObjectIdentity, names}
 use Rattle.state.specs.Setters.{set-lease-clock-tick, set-lease-epoch, set-leases}
 use Rattle.machine.specs.Actions.{Action, ObserveCommittedFrontier, SetRetentionWindow, ObserveRangeMapEpoch, ConfigureCollectionRoot, AcquireLease, RenewLease, ReleaseLease, AdvanceLeaseClock, PrepareCollection, PublishCollection, AbandonCollection, Prepare, Publish, Pin, Unpin, ReserveDelete, RetireDelete, Outcome}
-use Rattle.machine.specs.Next.{top, up, oldest, policy-for, readable-for, moved, expired}
+use Rattle.machine.specs.Next.{top, up, oldest, policy-for, readable-for, ends-by, moved, expired}
 use Rattle.machine.specs.Machine.{observe-committed-frontier, set-retention-window, observe-range-map-epoch, configure-collection-root, acquire-lease, renew-lease, release-lease, advance-lease-clock, prepare-collection, publish-collection, abandon-collection, prepare, publish, pin, unpin, reserve-delete, retire-delete, act}
 use Rattle.machine.specs.ApplyLaws.{Accepts}
 use Rattle.machine.specs.ExpiredLaws.{expired-rearranged}
@@ -225,7 +224,7 @@ module _ {n : ℕ} (few : n < top) {L : Ledger} (s : State) (i : Inv n (core s) 
   unfolding advance-lease-clock
   tick-keeps e d = λ now later. plain
       let g = i .good in
-      let p : SnapshotLeaseToken → Bool = λ t. leb (t .deadline-tick) d in
+      let p : SnapshotLeaseToken → Bool = ends-by d in
       let ids = expired s d in
       let m = moved-up ids (s .lease-epoch) n (i .count) few in
       let q : e ≡ s .lease-clock-tick = eqb-true _ _ (not-false _ now) in

@@ -126,6 +126,10 @@ released s id omit =
     ▸ bump-root-unless omit
     ▸ recompute-read-floor
 
+-- a tick reaches the deadline of a lease
+abbrev pub ends-by : ℕ → SnapshotLeaseToken → Bool
+ends-by tick lease = leb (lease .deadline-tick) tick
+
 -- a lease ran out before another: by deadline, then by epoch, then by id
 unfoldable pub ran-out-before : Entry SnapshotLeaseToken → Entry SnapshotLeaseToken → Bool
 ran-out-before (i ⟼ a) (j ⟼ b) =
@@ -133,9 +137,9 @@ ran-out-before (i ⟼ a) (j ⟼ b) =
     || (eqb (a .deadline-tick) (b .deadline-tick) && (ltb (a .lease-epoch) (b .lease-epoch)
     || (eqb (a .lease-epoch) (b .lease-epoch) && before i j)))
 
--- the leases whose deadline a tick reaches, in the order in which they ran out
+-- the leases that a tick ends, in the order in which they ran out
 abbrev pub ended : ℕ → Map SnapshotLeaseToken → Map SnapshotLeaseToken
-ended next-tick leases = sort ran-out-before (entries-where (λ lease. leb (lease .deadline-tick) next-tick) leases)
+ended next-tick leases = sort ran-out-before (entries-where (ends-by next-tick) leases)
 
 abbrev pub expired : State → ℕ → List Text
 expired s next-tick = map key-of (ended next-tick (s .leases))
