@@ -1,16 +1,11 @@
-//! Nanoseconds a byte of the text layer's functions beside Rust's own, in one run.
+//! What the text layer's functions cost beside Rust's own, in one run, in nanoseconds: `compare` by the call with its steps,
+//! the others by the byte.
 mod timing;
 
 use std::hint::black_box;
 use timing::{race, repeat};
 
-#[link(name = "text_c", kind = "static")]
-extern "C" {
-    fn text_is_utf8(s: *const u8, n: usize) -> bool;
-    fn text_same(a: *const u8, n: usize, b: *const u8, m: usize) -> bool;
-    fn text_compare(a: *const u8, n: usize, b: *const u8, m: usize) -> u8;
-    fn text_valid_sha256(s: *const u8, n: usize) -> bool;
-}
+include!(env!("TEXT_RS"));
 
 fn is_utf8(s: &[u8]) -> bool {
     unsafe { text_is_utf8(s.as_ptr(), s.len()) }
@@ -20,12 +15,29 @@ fn same(a: &[u8], b: &[u8]) -> bool {
     unsafe { text_same(a.as_ptr(), a.len(), b.as_ptr(), b.len()) }
 }
 
-fn compare(a: &[u8], b: &[u8]) -> u8 {
-    unsafe { text_compare(a.as_ptr(), a.len(), b.as_ptr(), b.len()) }
-}
-
 fn valid_sha256(s: &[u8]) -> bool {
     unsafe { text_valid_sha256(s.as_ptr(), s.len()) }
+}
+
+/// The order, and the steps.
+fn compare(a: &[u8], b: &[u8]) -> (u8, usize) {
+    let mut steps = usize::MAX;
+    let order = unsafe { text_compare(a.as_ptr(), a.len(), b.as_ptr(), b.len(), &mut steps) };
+    (order, steps)
+}
+
+/// One for each eight bytes where both have eight left, or else for each byte, up to and with the first that differ.
+fn steps(mut a: &[u8], mut b: &[u8]) -> usize {
+    let mut count = 0;
+    while !a.is_empty() && !b.is_empty() {
+        let taken = if a.len() >= 8 && b.len() >= 8 { 8 } else { 1 };
+        count += 1;
+        if a[..taken] != b[..taken] {
+            break;
+        }
+        (a, b) = (&a[taken..], &b[taken..]);
+    }
+    count
 }
 
 /// The test of the publication crate, as it stands there.
@@ -44,7 +56,7 @@ fn measure(kind: &str, text: &[u8]) {
     let n = text.len();
     let other = text.to_vec();
     assert_eq!(is_utf8(text), std::str::from_utf8(text).is_ok());
-    assert!(same(text, &other) && compare(text, &other) == 1);
+    assert!(same(text, &other));
     row(&format!("is_utf8, {kind}"), n, || is_utf8(black_box(text)), || std::str::from_utf8(black_box(text)).is_ok());
     row(
         &format!("same, {kind}"),
@@ -52,25 +64,80 @@ fn measure(kind: &str, text: &[u8]) {
         || same(black_box(text), black_box(&other)),
         || black_box(text) == black_box(&other[..]),
     );
-    row(
-        &format!("compare, {kind}"),
-        n,
-        || compare(black_box(text), black_box(&other)),
-        || black_box(text).cmp(black_box(&other[..])),
-    );
 }
+
+type Pair = (Vec<u8>, Vec<u8>);
+
+/// All pairs one after another.
+fn each<'a, A>(pairs: &'a [Pair], compare: impl Fn(&[u8], &[u8]) -> A + 'a) -> impl FnMut() + 'a {
+    move || {
+        for (a, b) in pairs {
+            black_box(compare(black_box(a), black_box(b)));
+        }
+    }
+}
+
+/// What compare costs on these pairs, in the mean.
+fn compare_row(name: &str, pairs: &[Pair]) {
+    for (a, b) in pairs {
+        assert_eq!(compare(a, b), ((a.cmp(b) as i8 + 1) as u8, steps(a, b)), "order and steps of {a:?} and {b:?}");
+    }
+    let mean = |sum: f64| sum / pairs.len() as f64;
+    let steps = mean(pairs.iter().map(|(a, b)| steps(a, b) as f64).sum());
+    let [ours, rust] = race([&mut repeat(each(pairs, compare)), &mut repeat(each(pairs, |a, b| a.cmp(b)))]);
+    let bytes = pairs[0].0.len();
+    println!("| {name} | {bytes} | {steps} | {:.2} | {:.2} | {:.2} |", mean(ours), mean(rust), ours / rust);
+}
+
+fn ascii(n: usize) -> Vec<u8> {
+    (0..n).map(|i| b'a' + (i % 26) as u8).collect()
+}
+
+/// As many bytes of this text as are no more than n and cut no char: one that is cut would end the test of UTF-8 early.
+fn mixed(n: usize) -> Vec<u8> {
+    let mut text: Vec<u8> = "bücher €10, 東京 𐍈 plain words ".bytes().cycle().take(n).collect();
+    let whole = std::str::from_utf8(&text).map_or_else(|e| e.valid_up_to(), |s| s.len());
+    text.truncate(whole);
+    text
+}
+
+fn equal(text: Vec<u8>) -> Pair {
+    (text.clone(), text)
+}
+
+/// Two texts of n bytes that differ in one, counted from 1.
+fn differing(n: usize, byte: usize) -> Pair {
+    let (a, mut b) = equal(ascii(n));
+    b[byte - 1] += 1;
+    (a, b)
+}
+
+const LENGTHS: [usize; 4] = [16, 64, 128, 1024];
 
 fn main() {
     println!("\nNanoseconds a byte of equal texts.\n");
     println!("| Function | Bytes | Ours | Rust's | Ratio |\n|---|---:|---:|---:|---:|");
-    for n in [16, 64, 128, 1024] {
-        let ascii: Vec<u8> = (0..n).map(|i| b'a' + (i % 26) as u8).collect();
-        let mixed: Vec<u8> = "bücher €10, 東京 𐍈 plain words ".bytes().cycle().take(n).collect();
-        // a text cut inside a char would end the test early
-        let whole = std::str::from_utf8(&mixed).map_or_else(|e| e.valid_up_to(), |s| s.len());
-        measure("ASCII", &ascii);
-        measure("mixed", &mixed[..whole]);
+    for n in LENGTHS {
+        measure("ASCII", &ascii(n));
+        measure("mixed", &mixed(n));
     }
     let hash = "0123456789abcdef".repeat(4);
     row("valid_sha256", 64, || valid_sha256(black_box(hash.as_bytes())), || rust_valid_sha256(black_box(&hash)));
+
+    println!("\nNanoseconds a call of compare.\n");
+    println!("| Texts | Bytes | Steps | Ours | Rust's | Ratio |\n|---|---:|---:|---:|---:|---:|");
+    for n in LENGTHS {
+        compare_row("equal", &[equal(ascii(n))]);
+        compare_row("first byte differs", &[differing(n, 1)]);
+        if n > 100 {
+            compare_row("byte 100 differs", &[differing(n, 100)]);
+        }
+        compare_row("last byte differs", &[differing(n, n)]);
+    }
+    compare_row("equal, mixed", &[equal(mixed(1024))]);
+    let late: Vec<Pair> = (65..=128).map(|byte| differing(128, byte)).collect();
+    compare_row("each byte from 65 to 128 differs in turn", &late);
+    for n in 1..16 {
+        compare_row("equal", &[equal(ascii(n))]);
+    }
 }

@@ -1,6 +1,6 @@
 //! A call with all that it is given, as small as it can be where the two sides differ.
 use crate::oracle::{self, Answer};
-use crate::{decode, encode, library, okvstep, shrink};
+use crate::{decode, encode, library, okvstep, shrink, texts};
 use std::fmt;
 use std::time::{Duration, Instant};
 
@@ -14,6 +14,7 @@ pub enum Call {
     Test { image: Vec<u8> },
     Default { room: usize },
     Steps { frames: Vec<Vec<u8>>, end: Vec<u8> },
+    Compare { a: Vec<u8>, b: Vec<u8> },
 }
 
 impl Call {
@@ -38,6 +39,7 @@ impl Call {
                 let input = okvstep::input(frames, end);
                 unlike(okvstep::run(&input), okvstep::lines(&input))
             }
+            Call::Compare { a, b } => unlike(library::compare(a, b), texts::answer(a, b)),
         }
     }
 
@@ -84,6 +86,19 @@ impl Call {
             Call::Steps { frames, end } => {
                 let call = |frames: &[Vec<u8>]| Call::Steps { frames: frames.to_vec(), end: end.clone() };
                 call(&shrink::list(frames, |frames| differs(&call(frames))))
+            }
+            Call::Compare { a, b } => {
+                // what both begin with, then what is left of each
+                let same = a.iter().zip(&b).take_while(|(x, y)| x == y).count();
+                let call = |head: &[u8], x: &[u8], y: &[u8]| Call::Compare {
+                    a: [head, x].concat(),
+                    b: [head, y].concat(),
+                };
+                let (x, y) = (a[same..].to_vec(), b[same..].to_vec());
+                let head = shrink::bytes(a[..same].to_vec(), |head| differs(&call(head, &x, &y)));
+                let x = shrink::bytes(x, |x| differs(&call(&head, x, &y)));
+                let y = shrink::bytes(y, |y| differs(&call(&head, &x, y)));
+                call(&head, &x, &y)
             }
         }
     }
@@ -133,6 +148,7 @@ impl fmt::Display for Call {
             Call::Steps { frames, end } => {
                 writeln!(f, "okvstep\ninput {}", hex(&okvstep::input(frames, end)))?;
             }
+            Call::Compare { a, b } => writeln!(f, "compare\n{}\n{}", hex(a), hex(b))?,
         }
         write!(f, "{}", self.difference().unwrap_or_else(|| "no difference when asked again".to_owned()))
     }

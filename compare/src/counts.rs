@@ -3,6 +3,7 @@ use crate::decode::Fault::{self, *};
 use crate::decode::{self, Read, Request};
 use crate::expiry::{Neighbours, NEIGHBOURS};
 use crate::oracle::{self, Answer};
+use crate::texts::{self, Kind, Place};
 use crate::{encode, limits};
 use okv_publication::{PublicationAuthorityState, SnapshotLeaseToken};
 use std::collections::BTreeMap;
@@ -57,12 +58,21 @@ pub struct Counts {
     pub flags: [u64; limits::FLAGS],
     /// How often a next image had just the length that is the limit, and one more.
     pub lengths: BTreeMap<(&'static str, usize), u64>,
+    /// Images with neighbouring records whose ids share a hundred bytes, by where these ids first differ and by whether they
+    /// stand in order.
+    pub alike: BTreeMap<(Place, bool), u64>,
     /// How often the token of an ended lease was shown while another lease had its id.
     pub used_anew: u64,
     /// Lines of okvstep by status, and how it ended.
     pub steps: BTreeMap<u32, u64>,
     pub ends: BTreeMap<String, u64>,
+    /// Comparisons of texts, and how often each kind of pair came.
+    pub texts: u64,
+    pub text_kinds: BTreeMap<Kind, u64>,
 }
+
+/// Bytes that two ids must share to be counted as alike.
+pub const ALIKE_BYTES: usize = 100;
 
 impl Counts {
     pub fn calls(&self) -> u64 {
@@ -139,6 +149,26 @@ impl Counts {
         }
     }
 
+    /// Two ids of neighbouring records of an image that was tested.
+    pub fn alike(&mut self, ids: [&str; 2], image: &Read<PublicationAuthorityState>) {
+        let in_order = match image {
+            Ok(_) => true,
+            Err(RecordOrder) => false,
+            Err(_) => return,
+        };
+        match texts::first_difference(ids[0].as_bytes(), ids[1].as_bytes()) {
+            Some((same, place)) if same >= ALIKE_BYTES => *self.alike.entry((place, in_order)).or_default() += 1,
+            _ => {}
+        }
+    }
+
+    pub fn compared(&mut self, a: &[u8], b: &[u8]) {
+        self.texts += 1;
+        for kind in texts::kinds(a, b) {
+            *self.text_kinds.entry(kind).or_default() += 1;
+        }
+    }
+
     /// The lines that okvstep printed after its header.
     pub fn stepped(&mut self, lines: &str) {
         for line in lines.lines().skip(1) {
@@ -161,7 +191,11 @@ impl Counts {
         println!("flags that decided: {:?}", self.flags);
         println!("faults: {:?}", self.faults);
         println!("next images of a limit's length and one more: {:?}", self.lengths);
+        println!("neighbouring ids that share {ALIKE_BYTES} bytes, by place and order: {:?}", self.alike);
         println!("okvstep: {:?}, {:?}", self.steps, self.ends);
+        let kinds = texts::every_kind();
+        let rarest = kinds.iter().filter_map(|kind| self.text_kinds.get_key_value(kind));
+        println!("rarest kind of two texts: {:?}", rarest.min_by_key(|(_, count)| **count));
     }
 
     /// The answers that must come and did not.
@@ -216,6 +250,19 @@ impl Counts {
         for ended in 2..=limits::TABLES[4] {
             if !self.ended.contains_key(&ended) {
                 missing.push(format!("{ended} ended leases"));
+            }
+        }
+        for place in texts::every_place() {
+            for in_order in [true, false] {
+                if !self.alike.contains_key(&(place, in_order)) {
+                    let what = if in_order { "in order" } else { "out of order" };
+                    missing.push(format!("ids alike up to {place:?}, {what}"));
+                }
+            }
+        }
+        for kind in texts::every_kind() {
+            if !self.text_kinds.contains_key(&kind) {
+                missing.push(format!("two texts of {kind:?}"));
             }
         }
         if !self.steps.contains_key(&45) {

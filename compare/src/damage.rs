@@ -20,6 +20,13 @@ pub struct Damage {
     pub fit: bool,
 }
 
+/// An image with two rows in each other's place.
+pub fn exchanged(image: &Encoded, first: &Range<usize>, second: &Range<usize>) -> Vec<u8> {
+    let mut damage = Damage { of: image.clone(), image: true, fit: true };
+    damage.swap(first, second);
+    damage.of.bytes
+}
+
 /// Shows every cut, every byte changed, and every text, set and table with what its limit and its order forbid.
 pub fn every(of: &Encoded, image: bool, mut see: impl FnMut(&[u8])) {
     for at in 0..of.bytes.len() {

@@ -3,7 +3,7 @@ use crate::call::Call;
 use crate::counts::Counts;
 use crate::limits::IMAGE;
 use crate::oracle::{self, Transition};
-use crate::{decode, encode, library, okvstep};
+use crate::{decode, encode, library, okvstep, texts};
 use okv_publication::PublicationAuthorityState;
 
 /// Room for every image and outcome.
@@ -86,6 +86,13 @@ impl Held {
         if let Call::Steps { frames, end } = call {
             self.counts.stepped(&okvstep::lines(&okvstep::input(&frames, &end)));
         }
+    }
+
+    pub fn compare(&mut self, a: &[u8], b: &[u8]) {
+        if library::compare(a, b) != texts::answer(a, b) {
+            self.differs(Call::Compare { a: a.to_vec(), b: b.to_vec() });
+        }
+        self.counts.compared(a, b);
     }
 
     fn differs(&self, call: Call) -> ! {

@@ -1,7 +1,9 @@
-//! The four functions of include/okv.h, called with slices that lie between bytes which must not change.
+//! The four functions of include/okv.h, called with slices that lie between bytes which must not change, and text_compare
+//! of include/text.h.
 use crate::oracle::Answer;
 
 include!(env!("OKV_RS"));
+include!(env!("TEXT_RS"));
 
 const FILL: u8 = 0xA5;
 const MARGIN: usize = 16;
@@ -62,6 +64,13 @@ pub fn validate(image: &[u8], token: &[u8]) -> u32 {
 
 pub fn test(image: &[u8]) -> u32 {
     unsafe { okv_test(image.as_ptr(), image.len()) }
+}
+
+/// The order and the steps.
+pub fn compare(a: &[u8], b: &[u8]) -> (u8, usize) {
+    let mut steps = usize::MAX;
+    let order = unsafe { text_compare(a.as_ptr(), a.len(), b.as_ptr(), b.len(), &mut steps) };
+    (order, steps)
 }
 
 pub fn default_image(room: usize) -> Result<(u32, Vec<u8>), String> {

@@ -1,7 +1,7 @@
-//! Holds libokv.a and okvstep to the Rust:
+//! Holds libokv.a and okvstep to the Rust, and text_compare of libtext_c.a to Rust's own order of bytes:
 //!
-//! - `compare`: at least 300,000 calls on fixed seeds; `compare SEED CALLS`: so many from this seed on, where few calls do
-//!   not reach all that must come;
+//! - `compare`: at least 300,000 calls on fixed seeds, and comparisons of texts beside them; `compare SEED CALLS`: so many
+//!   from this seed on, where few calls do not reach all that must come;
 //! - `compare lines FILE`: the lines that okvstep must print for these frames, as the Rust answers them;
 //! - `compare sample FOLDER`: the data file of calls and the Rust's answers for the program `replay`.
 mod actions;
@@ -23,6 +23,7 @@ mod runs;
 mod sample;
 mod shrink;
 mod states;
+mod texts;
 mod values;
 
 use std::path::Path;

@@ -1,16 +1,22 @@
-//! The runs: histories, full tables, leases that end, full images, damaged bytes, and okvstep. A seed gives one run.
+//! The runs: histories, full tables, leases that end, ids alike, full images, damaged bytes, okvstep, and texts. A seed gives
+//! one run.
 use crate::actions::{plain, Flags, ACTIONS};
 use crate::aim::damaged;
 use crate::counts::{all_came, grown_by};
-use crate::damage::every;
-use crate::decode::Request;
+use crate::damage::{every, exchanged};
+use crate::decode::{self, Request};
 use crate::encode;
 use crate::held::{Held, Lend};
 use crate::limits::*;
 use crate::oracle::{self, Transition};
-use crate::states::{filling, fillings, Fill, FILLING, FILLING_MOST};
+use crate::rng::Rng;
+use crate::states::{filling, fillings, reservations, Fill, ALIKE, FILLING, FILLING_MOST};
+use crate::texts;
 use crate::values::{Gen, Shape, Texts};
 use okv_publication::*;
+
+/// Comparisons of texts in a run.
+const TEXTS: usize = 1_000;
 
 /// Plays run after run until there are so many calls, and says whether all came that must.
 pub fn play(seed: u64, calls: u64) -> bool {
@@ -28,7 +34,8 @@ pub fn play(seed: u64, calls: u64) -> bool {
         one(&mut held, runs);
         runs += 1;
     }
-    println!("{} calls in {runs} runs from seed {seed}, no difference", held.counts.calls());
+    let (calls, texts) = (held.counts.calls(), held.counts.texts);
+    println!("{calls} calls and {texts} comparisons of texts in {runs} runs from seed {seed}, no difference");
     held.counts.print();
     let missing = [held.counts.missing_answers(), held.counts.missing_limits()].concat();
     all_came(&missing)
@@ -39,7 +46,9 @@ const MANY: Shape = Shape { ids: 90, texts: Texts::Mixed, odds: 12 };
 const LONG: Shape = Shape { ids: 40, texts: Texts::Full, odds: 20 };
 
 fn one(held: &mut Held, run: u64) {
-    let g = &mut Gen::new(held.seed, if run % 16 < 8 { SMALL } else { MANY });
+    let shape = [SMALL, MANY, SMALL, MANY, ALIKE][(run / 8 % 5) as usize];
+    let g = &mut Gen::new(held.seed, shape);
+    texts_of(held);
     if run % 256 == 0 {
         sweep(held, g);
     }
@@ -50,6 +59,7 @@ fn one(held: &mut Held, run: u64) {
         3 => {
             tables(held, g);
             expiries(held, g);
+            alike(held, g);
         }
         4 => lengths(held, g),
         5 | 6 => damage(held, g),
@@ -145,7 +155,7 @@ fn tables(held: &mut Held, g: &mut Gen) {
     for action in 1..=ACTIONS {
         let Some(table) = grown_by(action) else { continue };
         // a collection that makes a new root needs a job on a root that is not there, and a flag
-        let states = if action == 10 { 20 } else { 4 };
+        let states = if action == 10 { 30 } else { 4 };
         for fill in [Fill::OneShort, Fill::Full] {
             for _ in 0..states {
                 held.step += 1;
@@ -168,6 +178,44 @@ fn expiries(held: &mut Held, g: &mut Gen) {
         let (state, request) = g.expiry(ended);
         let (image, request) = (encode::image(&state).bytes, encode::request(&request).bytes);
         held.apply(&image, &request, lend(g));
+    }
+}
+
+/// Reservations of keys that are alike: in order, each two neighbours in each other's place, and looked up by their keys.
+fn alike(held: &mut Held, g: &mut Gen) {
+    g.shape = ALIKE;
+    for _ in 0..4 {
+        let mut state = g.state(false);
+        state.deletion_reservations = g.table(24, Gen::reservation);
+        let image = encode::image(&state);
+        held.test(&image.bytes);
+        let rows = reservations(&image);
+        let keys: Vec<&String> = state.deletion_reservations.keys().collect();
+        for (ids, rows) in keys.windows(2).zip(rows.windows(2)) {
+            held.step += 1;
+            let exchanged = exchanged(&image, &rows[0], &rows[1]);
+            held.test(&exchanged);
+            for image in [&image.bytes, &exchanged] {
+                held.counts.alike([ids[0], ids[1]], &decode::image(image));
+            }
+            for action in [16, 17] {
+                let request = g.request_of(action, &state, Flags::Off);
+                held.apply(&image.bytes, &encode::request(&request).bytes, Lend::Ample);
+            }
+        }
+    }
+}
+
+/// Pairs of texts, side by side: they begin at any place of a word, and the second stands where the first ends.
+fn texts_of(held: &mut Held) {
+    let rng = &mut Rng::new(held.seed);
+    for _ in 0..TEXTS {
+        held.step += 1;
+        let [a, b] = texts::pair(rng);
+        let start = rng.index(8);
+        let bytes = [&[0; 8][..start], &a, &b].concat();
+        let (a, b) = bytes[start..].split_at(a.len());
+        held.compare(a, b);
     }
 }
 

@@ -13,12 +13,14 @@
 //! `stdout` has a line for each case, its number from 1, what it is, and the answer; and `same` with their number.
 //! An image and its room have at most 65,536 bytes, a request or token 8,192, an outcome and its room 16,384.
 use crate::actions::{plain, Flags, ACTIONS};
-use crate::counts::{all_came, every_status, faults_of, grown_by, Counts, Input};
+use crate::counts::{all_came, every_status, faults_of, grown_by, Counts, Input, ALIKE_BYTES};
+use crate::damage::exchanged;
 use crate::decode::{self, Fault, Request};
 use crate::expiry::NEIGHBOURS;
 use crate::limits::*;
 use crate::oracle::{self, Answer, Transition};
-use crate::states::{fillings, Fill};
+use crate::states::{fillings, reservations, Fill, ALIKE};
+use crate::texts::{every_place, first_difference, Place};
 use crate::values::{Gen, Shape, Texts};
 use crate::{aim, encode, shrink};
 use okv_publication::*;
@@ -46,6 +48,7 @@ pub fn write(folder: &Path) -> std::io::Result<bool> {
     sample.faults();
     sample.limits();
     sample.expiries();
+    sample.alike();
     println!("{} cases in {} bytes", sample.cases, sample.stdin.len());
     sample.counts.print();
     let complete = all_came(&sample.counts.missing_answers());
@@ -348,6 +351,24 @@ impl Sample {
         let all = |scene: &Scene| NEIGHBOURS.iter().all(|n| n.are_in(&ended_of(scene), &scene.0));
         self.play(&search(0, |g| Some(g.expiry(TABLES[4])).filter(all)));
     }
+
+    /// Two reservations whose keys share a hundred bytes, for each place at which these can first differ: in order, each
+    /// retired, and in each other's place.
+    fn alike(&mut self) {
+        for place in every_place() {
+            let state = search(0, |g| Some(two_alike(g)).filter(|state| differ_at(state, place)));
+            let image = encode::image(&state);
+            self.load(&image.bytes);
+            self.test();
+            for scene in retired(&state) {
+                self.play(&scene);
+            }
+            if let [first, second] = reservations(&image) {
+                self.load(&exchanged(&image, first, second));
+                self.test();
+            }
+        }
+    }
 }
 
 /// Draws until there is what is looked for.
@@ -355,6 +376,29 @@ fn search<T>(start: usize, mut draw: impl FnMut(&mut Gen) -> Option<T>) -> T {
     (0..DRAWS)
         .find_map(|n| draw(&mut Gen::new((start * DRAWS + n) as u64, SMALL)))
         .expect("a sample of what can come")
+}
+
+fn two_alike(g: &mut Gen) -> PublicationAuthorityState {
+    g.shape = ALIKE;
+    PublicationAuthorityState { deletion_reservations: g.table(2, Gen::reservation), ..Default::default() }
+}
+
+/// Each reservation retired by the generation that made it.
+fn retired(state: &PublicationAuthorityState) -> Vec<Scene> {
+    let retire = |permit: &DeletePermit| {
+        let mut request = plain(PublicationAction::RetireDelete { permit: permit.clone() });
+        request.context.generation = permit.owner_generation();
+        (state.clone(), request)
+    };
+    state.deletion_reservations.values().map(retire).collect()
+}
+
+/// Whether the keys of the two reservations share a hundred bytes and first differ here, and both can be retired.
+fn differ_at(state: &PublicationAuthorityState, place: Place) -> bool {
+    let keys: Vec<&[u8]> = state.deletion_reservations.keys().map(String::as_bytes).collect();
+    first_difference(keys[0], keys[1]).is_some_and(|(same, at)| same >= ALIKE_BYTES && at == place)
+        && has_image(state)
+        && retired(state).iter().all(|scene| answer_of(scene).status == 0)
 }
 
 /// Whether each record stands under the id inside it and all is within the limits.

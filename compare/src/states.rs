@@ -1,10 +1,11 @@
 //! Random states built directly: also those that no history reaches.
-use crate::encode;
+use crate::encode::{self, Encoded};
 use crate::limits::*;
 use crate::permit::permit;
-use crate::values::Gen;
+use crate::values::{Gen, Shape, Texts};
 use okv_publication::*;
 use std::collections::{BTreeMap, BTreeSet};
+use std::ops::Range;
 
 /// How many records a table is given.
 #[derive(Clone, Copy, Debug, PartialEq)]
@@ -14,6 +15,16 @@ pub enum Fill {
     Full,
     /// One past the limit: no image.
     Over,
+}
+
+/// Ids and keys that share a long beginning.
+pub const ALIKE: Shape = Shape { ids: 90, texts: Texts::Alike, odds: 12 };
+
+/// Where each reservation stands in an image.
+pub fn reservations(image: &Encoded) -> &[Range<usize>] {
+    let count = 4 + ENTRY * 4 + 8;
+    let rows = image.rows.iter().find(|rows| rows.count == count);
+    &rows.expect("the rows of a table").ranges
 }
 
 impl Gen {
@@ -150,7 +161,7 @@ impl Gen {
         (self.id(), PreparedPublication { owner_generation: self.generation(), intent: self.intent(s) })
     }
 
-    fn reservation(&mut self) -> (String, DeletePermit) {
+    pub fn reservation(&mut self) -> (String, DeletePermit) {
         let (key, identity, plan_id) = (self.key(), self.identity(), self.id());
         let permit = permit(&key, &identity, &plan_id, self.generation(), self.position());
         (key, permit)

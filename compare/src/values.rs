@@ -12,6 +12,8 @@ pub enum Texts {
     Full,
     /// Of any length up to the limit.
     Mixed,
+    /// The same up to the last bytes that the limit allows: keys share a hundred.
+    Alike,
 }
 
 /// How many texts there are to choose from, and how often a value does not fit: one time in `odds`.
@@ -48,6 +50,7 @@ impl Gen {
             Texts::Short => 0,
             Texts::Full => most,
             Texts::Mixed => (n as usize * 37) % (most + 1),
+            Texts::Alike => return alike(n as usize, most),
         };
         "m".repeat(length.saturating_sub(text.len())) + &text
     }
@@ -189,6 +192,23 @@ impl Gen {
         let step = self.rng.below(more);
         self.near(n.saturating_add(step))
     }
+}
+
+/// How many of the last bytes that a limit allows can differ.
+const UNLIKE: usize = 28;
+
+/// A text that at one place has a char below or above that of the others, after which its bytes say the contrary; or that
+/// ends there. Divided by eight their lengths leave each remainder.
+fn alike(n: usize, most: usize) -> String {
+    let unlike = ["", "a", "i", "é", "z", "\u{10FFFF}"][n / 25 % 6];
+    let text = "m".repeat(most - UNLIKE + n % 25) + unlike;
+    let contrary = match unlike {
+        "" => "",
+        "a" | "i" => "z",
+        _ => "a",
+    };
+    let more = (most - n % 16).saturating_sub(text.len());
+    text + &contrary.repeat(more)
 }
 
 /// The longest beginning of a text within a limit.

@@ -1,8 +1,8 @@
 #!/usr/bin/env python3
 """Writes stdin (the cases) and stdout (each case with its answer) beside this file.
 
-The answers are Python's own: its strict UTF-8 decoder, its order and equality of bytes, its string tests. None comes
-from the code under test. src/main.rt says what each letter asks."""
+The answers are Python's own: its strict UTF-8 decoder, its order and equality of bytes, its string tests; the steps of
+a comparison are counted one by one. None comes from the code under test. src/main.rt says what each letter asks."""
 import pathlib
 import re
 
@@ -42,10 +42,43 @@ def hashes(*texts):
         case("h " + s, yes(re.fullmatch("[0-9a-f]{64}", s) is not None))
 
 
+def sign(a, b):
+    return "<" if a < b else "=" if a == b else ">"
+
+
+def steps(a, b):
+    """One for each eight bytes where both have eight left, or else for each byte, up to and with the first that differ."""
+    count = 0
+    while a and b:
+        taken = 8 if len(a) >= 8 and len(b) >= 8 else 1
+        count += 1
+        if a[:taken] != b[:taken]:
+            break
+        a, b = a[taken:], b[taken:]
+    return count
+
+
 def order(*pairs):
+    word = {"<": "less", "=": "equal", ">": "greater"}
     for a, b in pairs:
         x, y = a.encode(), b.encode()
-        case(f"c {a} {b}", " less" if x < y else " equal" if x == y else " greater")
+        case(f"c {a} {b}", f" {word[sign(x, y)]} {steps(x, y)}")
+
+
+SMALLER = bytes([0x7F, 0x00, 0xFE] * 8)
+LARGER = bytes([0x80, 0xFF, 0xFF] * 8)
+
+
+def places(n, m):
+    """Two texts that first differ at each place in turn, and after it in each byte the contrary way; then no difference."""
+    row = ""
+    for d in range(min(n, m)):
+        less = SMALLER[:d + 1] + LARGER[d + 1:]
+        more = SMALLER[:d] + LARGER[d:d + 1] + SMALLER[d + 1:]
+        for a, b in ((less[:n], more[:m]), (more[:n], less[:m])):
+            row += sign(a, b) + str(steps(a, b))
+    a, b = SMALLER[:n], SMALLER[:m]
+    case(f"w {n:0>2} {m:0>2}", f" {row}{sign(a, b)}{steps(a, b)}")
 
 
 case("# the empty text, and examples of RFC 3629, section 7")
@@ -78,6 +111,20 @@ order(("", ""), ("", "a"), ("a", ""), ("a", "a"), ("a", "b"), ("b", "a"), ("b", 
 order(("abc", "ab"), ("abc", "abd"), ("lease-10", "lease-9"), ("lease-9", "lease-10"), ("Z", "a"), ("z", "\u00e9"))
 order(("\u00e9", "z"), ("\uffff", "\U00010000"), (S + S, S + S), (S + S[:15] + "X", S + S), (S, S + "0"))
 order((S + "x", S + "0"), (S[:15], S), (S + S + "0", S + S), (S[:15] + "g", S + "0"))
+
+K = "site-7/line-12/controller-3/" + "build-" * 12
+case("# steps: 128 equal bytes, a difference in byte 3, keys that share a hundred bytes, and a prefix")
+order((H + H, H + H), ("abcdefgh", "abcxefgh"), (K + "-alpha", K + "-beta"), (K + "-beta.0", K + "-alpha.1"))
+order((K + "-beta", K + "-beta.zip"), (K + "-beta.zip", K + "-beta"), (K + "-beta.1", K + "-beta.2"), ("", K))
+case("# a difference in each word of 128 bytes, after which each byte says the contrary")
+for word in range(16):
+    d = 8 * word + word % 8
+    order((H + H, (H + H)[:d] + "!" + "~" * (127 - d)))
+
+case("# every length from 0 to 24 on both sides, and every place of the first difference")
+for n in range(25):
+    for m in range(25):
+        places(n, m)
 
 case("# equality, first bytes, last byte")
 for a, b in [("", ""), ("", "a"), ("a", ""), ("abc", "abc"), ("abc", "abd"), ("xbc", "abc"), ("ab", "abc"),

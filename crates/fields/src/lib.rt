@@ -2,8 +2,8 @@
 ghost use mathlib.Core.Path.{_≡_};
 ghost use mathlib.Core.Option.{none, some};
 ghost use mathlib.Core.Bool.{cond};
-ghost use Prim.Native.Nat.{ℕ, _+_, _-_, _≤_, _<_, min};
-ghost use lib.ListN.{length, take, drop};
+ghost use Prim.Native.Nat.{_+_, _-_, _≤_, _<_, min};
+ghost use lib.ListN.{length, drop};
 ghost use lib.Dec.{eqb};
 ghost use Rattle.fields.specs.Format.{many, read-kind, read-text, after, rows, itself, read-set};
 ghost use Rattle.fields.specs.Codes.{read-flag, step, advance, walk, codeOf, codesOf};
@@ -85,7 +85,8 @@ fn follows(i: usize, a: &[u8], b: &[u8]) -> bool
     if i == 0 {
         return true;
     }
-    let o = text::compare(a, b);
+    let c = text::compare(a, b);
+    let o = c.order;
     match o {
         Order::Less => true,
         Order::Equal => false,

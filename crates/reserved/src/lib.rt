@@ -33,7 +33,8 @@ fn reach(codes: &[u8], s: &[u8], at: usize, n: usize, id: &[u8]) -> Stop
     let mut p = at;
     let mut left = n;
     while left != 0 {
-        let o = text::compare(id, fields::text_at(s, p));
+        let c = text::compare(id, fields::text_at(s, p));
+        let o = c.order;
         match o {
             Order::Less => {
                 return Stop {
@@ -67,7 +68,8 @@ fn resume(codes: &[u8], s: &[u8], at: usize, n: usize, last: &[u8], from: Stop, 
     requires { ⌜ Passed (codesOf (now codes)) n (drop at (now s)) (now last) (from .left) (drop (from .at) (now s)) ⌝ }
     ensures { λ r. ⌜ (r .found ≡ locatedIn (codesOf (now (codes .entry))) n (drop at (now (s .entry))) (now (id .entry))) × Passed (codesOf (now (codes .entry))) n (drop at (now (s .entry))) (now (id .entry)) (r .left) (drop (r .at) (now (s .entry))) ⌝ }
 {
-    let o = text::compare(last, id);
+    let c = text::compare(last, id);
+    let o = c.order;
     match o {
         Order::Less => reach(codes, s, from.at, from.left, id),
         Order::Equal => reach(codes, s, at, n, id),

@@ -145,7 +145,8 @@ pub fn locate(codes: &[u8], s: &[u8], at: usize, n: usize, id: &[u8]) -> Place
     let mut i = 0;
     let mut p = fields::within(s, at);
     while i < n {
-        let o = text::compare(id, fields::text_at(s, p));
+        let c = text::compare(id, fields::text_at(s, p));
+        let o = c.order;
         match o {
             Order::Less => {
                 return Place { start: p, end: p };

@@ -3,7 +3,7 @@
 ghost use mathlib.Core.Path.{_≡_};
 ghost use Rattle.text.specs.Same.{sameOf, prefixOf, endsWithOf, sha256Of};
 ghost use Rattle.text.specs.Utf8.{utf8};
-ghost use Rattle.text.specs.Order.{orderOf};
+ghost use Rattle.text.specs.Order.{orderOf, stepsOf};
 ghost use Rattle.text_c.specs.Sign.{signOf};
 
 #[no_mangle]
@@ -41,12 +41,15 @@ pub extern "C" fn text_valid_sha256(s: &[u8]) -> bool
     text::valid_sha256(s)
 }
 
-// 0 where a comes first, 1 where they are equal, 2 where b comes first.
+// 0 where a comes first, 1 where they are equal, 2 where b comes first; and the steps that it took to tell.
 #[no_mangle]
-pub extern "C" fn text_compare(a: &[u8], b: &[u8]) -> u8
-    ensures { λ r. ⌜ r ≡ signOf (orderOf (now (a .entry)) (now (b .entry))) ⌝ }
+pub extern "C" fn text_compare(a: &[u8], b: &[u8], steps: &mut usize) -> u8
+    ensures order { λ r. ⌜ r ≡ signOf (orderOf (now (a .entry)) (now (b .entry))) ⌝ }
+    ensures steps { λ r. ⌜ now (steps .exit) ≡ stepsOf (now (a .entry)) (now (b .entry)) ⌝ }
 {
-    let o = text::compare(a, b);
+    let c = text::compare(a, b);
+    *steps = c.steps;
+    let o = c.order;
     match o {
         text::Order::Less => 0,
         text::Order::Equal => 1,

@@ -3,13 +3,16 @@
 //   u HEX         is_utf8 of the bytes that HEX writes
 //   l HEX         is_utf8 of each byte from 00 to FF with the bytes that HEX writes after it: a digit each
 //   h TEXT        valid_sha256
-//   c TEXT TEXT   compare
+//   c TEXT TEXT   compare: the order and the steps
+//   w NN MM       compare of two texts of these lengths, up to 24 (decimal): for each place at which they can first differ,
+//                 with the first text smaller there and with the second, and for no difference, the sign and the steps
 //   s TEXT TEXT   same
 //   p TEXT TEXT   starts_with: whether the first begins with the second
 //   e TEXT B      ends_with_byte
 //
 // Any other line is written as it is.
 use libc::STDOUT_FILENO;
+use text::Compared;
 use text::Order;
 ghost use Prim.Native.Nat.{_≤_, _*_};
 ghost use lib.ListN.{length};
@@ -26,12 +29,28 @@ fn write_bool(yes: bool) {
     }
 }
 
-fn write_order(o: Order) {
+fn write_number(n: usize) {
+    io::print_decimal(STDOUT_FILENO, n as u64);
+}
+
+fn write_order(c: Compared) {
+    let o = c.order;
     match o {
-        Order::Less => write(b" less"),
-        Order::Equal => write(b" equal"),
-        Order::Greater => write(b" greater"),
+        Order::Less => write(b" less "),
+        Order::Equal => write(b" equal "),
+        Order::Greater => write(b" greater "),
     }
+    write_number(c.steps);
+}
+
+fn write_sign(c: Compared) {
+    let o = c.order;
+    match o {
+        Order::Less => write(b"<"),
+        Order::Equal => write(b"="),
+        Order::Greater => write(b">"),
+    }
+    write_number(c.steps);
 }
 
 // Where b first stands in s, or the length of s.
@@ -110,6 +129,63 @@ fn write_digit(yes: bool) {
     }
 }
 
+// Bytes that two texts have where they differ, by turns: the neighbours of 0x80, the ends of all bytes, and two above 0x80.
+// In 24 bytes each of the three stands at each place of a word.
+const SMALLER: [u8; 3] = [0x7F, 0x00, 0xFE];
+
+const LARGER: [u8; 3] = [0x80, 0xFF, 0xFF];
+
+fn repeated(bytes: [u8; 3]) -> [u8; 24] {
+    let mut text = [0u8; 24];
+    let mut i = 0;
+    while i < 24 {
+        text[i] = bytes[i % 3];
+        i += 1;
+    }
+    text
+}
+
+// Compares the first n bytes of one with the first m of the other.
+fn compare_heads(a: [u8; 24], n: usize, b: [u8; 24], m: usize)
+    requires { ⌜ (n ≤ 24) × (m ≤ 24) ⌝ }
+{
+    write_sign(text::compare(&a[0..n], &b[0..m]));
+}
+
+// Before the place of the first difference both texts are the same, and after it each byte says the contrary.
+fn each_place(n: usize, m: usize)
+    requires { ⌜ (n ≤ 24) × (m ≤ 24) ⌝ }
+{
+    write(b" ");
+    let mut a = repeated(LARGER);
+    let mut b = repeated(SMALLER);
+    let mut d = 0;
+    while d < n && d < m {
+        a[d] = SMALLER[d % 3];
+        b[d] = LARGER[d % 3];
+        compare_heads(a, n, b, m);
+        compare_heads(b, n, a, m);
+        b[d] = SMALLER[d % 3];
+        d += 1;
+    }
+    compare_heads(b, n, b, m);
+}
+
+// The number that two digits write, up to 24.
+fn up_to_24(tens: u8, ones: u8) -> usize
+    ensures { λ r. ⌜ r ≤ 24 ⌝ }
+{
+    let n = digit(tens) * 10 + digit(ones);
+    if 24 < n { 24 } else { n as usize }
+}
+
+fn two_lengths(s: &[u8]) {
+    if s.len() < 5 {
+        return;
+    }
+    each_place(up_to_24(s[0], s[1]), up_to_24(s[3], s[4]));
+}
+
 fn ends_with(s: &[u8], b: &[u8]) -> bool {
     if b.len() == 0 {
         return false;
@@ -145,6 +221,7 @@ fn answer(line: &[u8]) {
         b'u' => write_bool(from_hex(rest)),
         b'l' => each_lead(rest),
         b'h' => write_bool(text::valid_sha256(rest)),
+        b'w' => two_lengths(rest),
         _ => two_texts(case, rest),
     }
 }

@@ -2,6 +2,7 @@ use mathlib.Core.Path.{sym, _∙_, ap}
 use Rattle.state.specs.Maps.{is-less}
 use Rattle.fields.proofs.WalkSteps.{follows-first, follows-later}
 use borrow.Author.Needs.{needs}
+use Rattle.text.specs.OrderLaws.{order-told}
 use Rattle.fields.proofs.follows.Statement.{statement}
 use Rattle.fields.proofs.follows.Tie as tie
 
@@ -21,13 +22,13 @@ enum-told-3 : tie.Need-enum-told-3
 enum-told-3 c = search needs
 
 returns-2 : tie.Need-returns-2
-returns-2 c = sym (follows-later _ _ _ _ ((c .before .before .before .if1) .left) ((c .before .before .compare) .ensures) ∙ ap is-less ((c .enum-told) .given .1))
+returns-2 c = sym (follows-later _ _ _ _ ((c .before .before .before .if1) .left) (order-told ((c .before .before .compare) .ensures)) ∙ ap is-less ((c .enum-told) .given .1))
 
 returns-3 : tie.Need-returns-3
-returns-3 c = sym (follows-later _ _ _ _ ((c .before .before .before .if1) .left) ((c .before .before .compare) .ensures) ∙ ap is-less ((c .enum-told2) .given .1))
+returns-3 c = sym (follows-later _ _ _ _ ((c .before .before .before .if1) .left) (order-told ((c .before .before .compare) .ensures)) ∙ ap is-less ((c .enum-told2) .given .1))
 
 returns-4 : tie.Need-returns-4
-returns-4 c = sym (follows-later _ _ _ _ ((c .before .before .before .if1) .left) ((c .before .before .compare) .ensures) ∙ ap is-less ((c .enum-told3) .given .1))
+returns-4 c = sym (follows-later _ _ _ _ ((c .before .before .before .if1) .left) (order-told ((c .before .before .compare) .ensures)) ∙ ap is-less ((c .enum-told3) .given .1))
 
 pub follows-spec : {M : Type 1} → statement M
 follows-spec =

@@ -7,6 +7,7 @@ use mathlib.Core.Path.{_≡_, refl, sym, ap, _∙_}
 use Prim.Native.Nat.{ℕ}
 use lib.ListN.{drop}
 use borrow.Author.Needs.{needs}
+use Rattle.text.specs.OrderLaws.{order-told}
 use Rattle.reserved.proofs.reach.Statement.{statement}
 use Rattle.reserved.proofs.reach.Tie as tie
 
@@ -29,7 +30,7 @@ enum-told : tie.Need-enum-told Inv-loop μ-loop
 enum-told c = search needs
 
 returns : tie.Need-returns Inv-loop μ-loop
-returns c = (sym (same-row (codesOf ((c .before .before .before .before .before .before .before .before .before .args) .codes .now)) ((c .before .before .before .before .before .before .before .before .before .args) .n) (drop ((c .before .before .before .before .before .before .before .before .before .args) .at) ((c .before .before .before .before .before .before .before .before .before .args) .s .now)) ((c .before .before .before .before .before .before .before .before .before .args) .id .now) ((c .before .before .before .before .before .loop) .left) (drop ((c .before .before .before .before .before .loop) .p) ((c .before .before .before .before .before .before .before .before .before .args) .s .now)) ((c .before .before .before .before .before .loop) .inv .0) ∙ row-later (codesOf ((c .before .before .before .before .before .before .before .before .before .args) .codes .now)) ((c .before .before .before .before .before .before .before .before .before .args) .s .now) ((c .before .before .before .before .before .before .before .before .before .args) .id .now) ((c .before .before .before .before .before .loop) .p) ((c .before .before .before .before .before .loop) .left) _ ((c .before .before .before .text-at) .ensures) ((c .before .before .before .before .loop-test) .taken) (sym ((c .before .before .compare) .ensures) ∙ (c .enum-told) .given .1)), (c .before .before .before .before .before .loop) .inv .1)
+returns c = (sym (same-row (codesOf ((c .before .before .before .before .before .before .before .before .before .args) .codes .now)) ((c .before .before .before .before .before .before .before .before .before .args) .n) (drop ((c .before .before .before .before .before .before .before .before .before .args) .at) ((c .before .before .before .before .before .before .before .before .before .args) .s .now)) ((c .before .before .before .before .before .before .before .before .before .args) .id .now) ((c .before .before .before .before .before .loop) .left) (drop ((c .before .before .before .before .before .loop) .p) ((c .before .before .before .before .before .before .before .before .before .args) .s .now)) ((c .before .before .before .before .before .loop) .inv .0) ∙ row-later (codesOf ((c .before .before .before .before .before .before .before .before .before .args) .codes .now)) ((c .before .before .before .before .before .before .before .before .before .args) .s .now) ((c .before .before .before .before .before .before .before .before .before .args) .id .now) ((c .before .before .before .before .before .loop) .p) ((c .before .before .before .before .before .loop) .left) _ ((c .before .before .before .text-at) .ensures) ((c .before .before .before .before .loop-test) .taken) (sym (order-told ((c .before .before .compare) .ensures)) ∙ (c .enum-told) .given .1)), (c .before .before .before .before .before .loop) .inv .1)
 
 enum-told-2 : tie.Need-enum-told-2 Inv-loop μ-loop
 enum-told-2 c = search needs
@@ -53,7 +54,7 @@ loop-less : tie.Need-loop-less Inv-loop μ-loop
 loop-less c = search needs
 
 loop-again : tie.Need-loop-again Inv-loop μ-loop
-loop-again c = ((c .before .before .before .before .before .before .loop) .inv .0 ∙ row-on (codesOf ((c .before .before .before .before .before .before .before .before .before .before .args) .codes .now)) ((c .before .before .before .before .before .before .before .before .before .before .args) .s .now) ((c .before .before .before .before .before .before .before .before .before .before .args) .id .now) ((c .before .before .before .before .before .before .loop) .p) ((c .before .before .before .before .before .before .loop) .left) _ ((c .before .before .before .before .text-at) .ensures) ((c .before .before .before .before .before .loop-test) .taken) _ ((c .skip-record) .ensures) ((c .before .before .before .before .before .before .before .before .before .before .args) .id .now) (sym ((c .before .before .before .compare) .ensures) ∙ (c .before .enum-told3) .given .1), passed-row (codesOf ((c .before .before .before .before .before .before .before .before .before .before .args) .codes .now)) ((c .before .before .before .before .before .before .before .before .before .before .args) .s .now) ((c .before .before .before .before .before .before .before .before .before .before .args) .id .now) ((c .before .before .before .before .before .before .loop) .p) ((c .before .before .before .before .before .before .loop) .left) _ ((c .before .before .before .before .text-at) .ensures) ((c .before .before .before .before .before .loop-test) .taken) _ ((c .skip-record) .ensures) ((c .before .before .before .before .before .before .before .before .before .before .args) .n) (drop ((c .before .before .before .before .before .before .before .before .before .before .args) .at) ((c .before .before .before .before .before .before .before .before .before .before .args) .s .now)) (sym ((c .before .before .before .compare) .ensures) ∙ (c .before .enum-told3) .given .1) ((c .before .before .before .before .before .before .loop) .inv .1))
+loop-again c = ((c .before .before .before .before .before .before .loop) .inv .0 ∙ row-on (codesOf ((c .before .before .before .before .before .before .before .before .before .before .args) .codes .now)) ((c .before .before .before .before .before .before .before .before .before .before .args) .s .now) ((c .before .before .before .before .before .before .before .before .before .before .args) .id .now) ((c .before .before .before .before .before .before .loop) .p) ((c .before .before .before .before .before .before .loop) .left) _ ((c .before .before .before .before .text-at) .ensures) ((c .before .before .before .before .before .loop-test) .taken) _ ((c .skip-record) .ensures) ((c .before .before .before .before .before .before .before .before .before .before .args) .id .now) (sym (order-told ((c .before .before .before .compare) .ensures)) ∙ (c .before .enum-told3) .given .1), passed-row (codesOf ((c .before .before .before .before .before .before .before .before .before .before .args) .codes .now)) ((c .before .before .before .before .before .before .before .before .before .before .args) .s .now) ((c .before .before .before .before .before .before .before .before .before .before .args) .id .now) ((c .before .before .before .before .before .before .loop) .p) ((c .before .before .before .before .before .before .loop) .left) _ ((c .before .before .before .before .text-at) .ensures) ((c .before .before .before .before .before .loop-test) .taken) _ ((c .skip-record) .ensures) ((c .before .before .before .before .before .before .before .before .before .before .args) .n) (drop ((c .before .before .before .before .before .before .before .before .before .before .args) .at) ((c .before .before .before .before .before .before .before .before .before .before .args) .s .now)) (sym (order-told ((c .before .before .before .compare) .ensures)) ∙ (c .before .enum-told3) .given .1) ((c .before .before .before .before .before .before .loop) .inv .1))
 
 returns-3 : tie.Need-returns-3 Inv-loop μ-loop
 returns-3 c = (sym (same-row (codesOf ((c .before .before .before .before .before .args) .codes .now)) ((c .before .before .before .before .before .args) .n) (drop ((c .before .before .before .before .before .args) .at) ((c .before .before .before .before .before .args) .s .now)) ((c .before .before .before .before .before .args) .id .now) ((c .before .loop) .left) (drop ((c .before .loop) .p) ((c .before .before .before .before .before .args) .s .now)) ((c .before .loop) .inv .0) ∙ ap (λ (m : ℕ). locatedIn (codesOf ((c .before .before .before .before .before .args) .codes .now)) m (drop ((c .before .loop) .p) ((c .before .before .before .before .before .args) .s .now)) ((c .before .before .before .before .before .args) .id .now)) ((c .loop-test) .left) ∙ no-rows (codesOf ((c .before .before .before .before .before .args) .codes .now)) (drop ((c .before .loop) .p) ((c .before .before .before .before .before .args) .s .now)) ((c .before .before .before .before .before .args) .id .now)), (c .before .loop) .inv .1)

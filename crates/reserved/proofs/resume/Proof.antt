@@ -3,6 +3,7 @@ use Rattle.fields.specs.Codes.{codesOf}
 use mathlib.Core.Path.{sym, _∙_}
 use lib.ListN.{drop}
 use borrow.Author.Needs.{needs}
+use Rattle.text.specs.OrderLaws.{order-told}
 use Rattle.reserved.proofs.resume.Statement.{statement}
 use Rattle.reserved.proofs.resume.Tie as tie
 
@@ -28,7 +29,7 @@ reach-requires-3 : tie.Need-reach-requires-3
 reach-requires-3 c κs = search needs
 
 returns : tie.Need-returns
-returns c = ((c .reach) .ensures .0 ∙ sym (same-row (codesOf ((c .before .before .before .before .before .before .before .before .args) .codes .now)) ((c .before .before .before .before .before .before .before .before .args) .n) (drop ((c .before .before .before .before .before .before .before .before .args) .at) ((c .before .before .before .before .before .before .before .before .args) .s .now)) ((c .before .before .before .before .before .before .before .before .args) .id .now) ((c .before .before .before .before .before .before .before .before .args) .from .left) (drop ((c .before .before .before .before .before .before .before .before .args) .from .at) ((c .before .before .before .before .before .before .before .before .args) .s .now)) ((c .before .before .before .before .before .before .before .before .pre) .later ((c .before .before .before .before .before .before .before .before .args) .id .now) (sym ((c .before .before .before .compare) .ensures) ∙ (c .before .enum-told) .given .1))), passed-on (codesOf ((c .before .before .before .before .before .before .before .before .args) .codes .now)) ((c .before .before .before .before .before .before .before .before .args) .n) (drop ((c .before .before .before .before .before .before .before .before .args) .at) ((c .before .before .before .before .before .before .before .before .args) .s .now)) ((c .before .before .before .before .before .before .before .before .args) .id .now) ((c .before .before .before .before .before .before .before .before .args) .from .left) _ (drop ((c .before .before .before .before .before .before .before .before .args) .from .at) ((c .before .before .before .before .before .before .before .before .args) .s .now)) _ ((c .before .before .before .before .before .before .before .before .args) .last .now) (c .before .before .before .before .before .before .before .before .pre) (sym ((c .before .before .before .compare) .ensures) ∙ (c .before .enum-told) .given .1) ((c .reach) .ensures .1))
+returns c = ((c .reach) .ensures .0 ∙ sym (same-row (codesOf ((c .before .before .before .before .before .before .before .before .args) .codes .now)) ((c .before .before .before .before .before .before .before .before .args) .n) (drop ((c .before .before .before .before .before .before .before .before .args) .at) ((c .before .before .before .before .before .before .before .before .args) .s .now)) ((c .before .before .before .before .before .before .before .before .args) .id .now) ((c .before .before .before .before .before .before .before .before .args) .from .left) (drop ((c .before .before .before .before .before .before .before .before .args) .from .at) ((c .before .before .before .before .before .before .before .before .args) .s .now)) ((c .before .before .before .before .before .before .before .before .pre) .later ((c .before .before .before .before .before .before .before .before .args) .id .now) (sym (order-told ((c .before .before .before .compare) .ensures)) ∙ (c .before .enum-told) .given .1))), passed-on (codesOf ((c .before .before .before .before .before .before .before .before .args) .codes .now)) ((c .before .before .before .before .before .before .before .before .args) .n) (drop ((c .before .before .before .before .before .before .before .before .args) .at) ((c .before .before .before .before .before .before .before .before .args) .s .now)) ((c .before .before .before .before .before .before .before .before .args) .id .now) ((c .before .before .before .before .before .before .before .before .args) .from .left) _ (drop ((c .before .before .before .before .before .before .before .before .args) .from .at) ((c .before .before .before .before .before .before .before .before .args) .s .now)) _ ((c .before .before .before .before .before .before .before .before .args) .last .now) (c .before .before .before .before .before .before .before .before .pre) (sym (order-told ((c .before .before .before .compare) .ensures)) ∙ (c .before .enum-told) .given .1) ((c .reach) .ensures .1))
 
 returns-2 : tie.Need-returns-2
 returns-2 c = search needs

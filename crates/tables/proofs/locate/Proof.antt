@@ -8,6 +8,7 @@ use Rattle.fields.specs.Codes.{codesOf}
 use Rattle.tables.specs.Seek.{seek, placed}
 use Rattle.tables.proofs.Steps.{seek-end, seek-before, seek-here, seek-on}
 use borrow.Author.Needs.{needs}
+use Rattle.text.specs.OrderLaws.{order-told}
 use Rattle.tables.proofs.locate.Statement.{statement}
 use Rattle.tables.proofs.locate.Tie as tie
 
@@ -33,7 +34,7 @@ enum-told : tie.Need-enum-told Inv-loop μ-loop
 enum-told c = search needs
 
 returns : tie.Need-returns Inv-loop μ-loop
-returns c = sym (ap (placed ((c .before .before .before .before .before .before .before .before .before .before .args) .s .now)) ((c .before .before .before .before .before .loop) .inv .2) ∙ seek-before (codesOf ((c .before .before .before .before .before .before .before .before .before .before .args) .codes .now)) ((c .before .before .before .before .before .before .before .before .before .before .args) .id .now) ((c .before .before .before .before .before .before .before .before .before .before .args) .s .now) ((c .before .before .before .before .before .loop) .p) ((c .before .before .before .before .before .before .before .before .before .before .args) .n) ((c .before .before .before .before .before .loop) .i) _ ((c .before .before .before .text-at) .ensures) ((c .before .before .before .before .loop-test) .taken) (sym ((c .before .before .compare) .ensures) ∙ (c .enum-told) .given .1) ((c .before .before .before .before .before .loop) .inv .1))
+returns c = sym (ap (placed ((c .before .before .before .before .before .before .before .before .before .before .args) .s .now)) ((c .before .before .before .before .before .loop) .inv .2) ∙ seek-before (codesOf ((c .before .before .before .before .before .before .before .before .before .before .args) .codes .now)) ((c .before .before .before .before .before .before .before .before .before .before .args) .id .now) ((c .before .before .before .before .before .before .before .before .before .before .args) .s .now) ((c .before .before .before .before .before .loop) .p) ((c .before .before .before .before .before .before .before .before .before .before .args) .n) ((c .before .before .before .before .before .loop) .i) _ ((c .before .before .before .text-at) .ensures) ((c .before .before .before .before .loop-test) .taken) (sym (order-told ((c .before .before .compare) .ensures)) ∙ (c .enum-told) .given .1) ((c .before .before .before .before .before .loop) .inv .1))
 
 enum-told-2 : tie.Need-enum-told-2 Inv-loop μ-loop
 enum-told-2 c = search needs
@@ -42,7 +43,7 @@ skip-record-requires : tie.Need-skip-record-requires Inv-loop μ-loop
 skip-record-requires c κs = search needs
 
 returns-2 : tie.Need-returns-2 Inv-loop μ-loop
-returns-2 c = ap (λ (e : ℕ). record { start = (c .before .before .before .before .before .before .loop) .p; end = e }) ((c .skip-record) .ensures) ∙ sym (ap (placed ((c .before .before .before .before .before .before .before .before .before .before .before .args) .s .now)) ((c .before .before .before .before .before .before .loop) .inv .2) ∙ seek-here (codesOf ((c .before .before .before .before .before .before .before .before .before .before .before .args) .codes .now)) ((c .before .before .before .before .before .before .before .before .before .before .before .args) .id .now) ((c .before .before .before .before .before .before .before .before .before .before .before .args) .s .now) ((c .before .before .before .before .before .before .loop) .p) ((c .before .before .before .before .before .before .before .before .before .before .before .args) .n) ((c .before .before .before .before .before .before .loop) .i) _ ((c .before .before .before .before .text-at) .ensures) ((c .before .before .before .before .before .loop-test) .taken) (sym ((c .before .before .before .compare) .ensures) ∙ (c .before .enum-told2) .given .1) ((c .before .before .before .before .before .before .loop) .inv .1))
+returns-2 c = ap (λ (e : ℕ). record { start = (c .before .before .before .before .before .before .loop) .p; end = e }) ((c .skip-record) .ensures) ∙ sym (ap (placed ((c .before .before .before .before .before .before .before .before .before .before .before .args) .s .now)) ((c .before .before .before .before .before .before .loop) .inv .2) ∙ seek-here (codesOf ((c .before .before .before .before .before .before .before .before .before .before .before .args) .codes .now)) ((c .before .before .before .before .before .before .before .before .before .before .before .args) .id .now) ((c .before .before .before .before .before .before .before .before .before .before .before .args) .s .now) ((c .before .before .before .before .before .before .loop) .p) ((c .before .before .before .before .before .before .before .before .before .before .before .args) .n) ((c .before .before .before .before .before .before .loop) .i) _ ((c .before .before .before .before .text-at) .ensures) ((c .before .before .before .before .before .loop-test) .taken) (sym (order-told ((c .before .before .before .compare) .ensures)) ∙ (c .before .enum-told2) .given .1) ((c .before .before .before .before .before .before .loop) .inv .1))
 
 enum-told-3 : tie.Need-enum-told-3 Inv-loop μ-loop
 enum-told-3 c = search needs
@@ -57,7 +58,7 @@ loop-less : tie.Need-loop-less Inv-loop μ-loop
 loop-less c = search needs
 
 loop-again : tie.Need-loop-again Inv-loop μ-loop
-loop-again c = (omega arith, omega (arith, (c .skip-record2) .ensures), (c .before .before .before .before .before .before .loop) .inv .2 ∙ seek-on (codesOf ((c .before .before .before .before .before .before .before .before .before .before .before .args) .codes .now)) ((c .before .before .before .before .before .before .before .before .before .before .before .args) .id .now) ((c .before .before .before .before .before .before .before .before .before .before .before .args) .s .now) ((c .before .before .before .before .before .before .loop) .p) ((c .before .before .before .before .before .before .before .before .before .before .before .args) .n) ((c .before .before .before .before .before .before .loop) .i) _ ((c .before .before .before .before .text-at) .ensures) ((c .before .before .before .before .before .loop-test) .taken) (sym ((c .before .before .before .compare) .ensures) ∙ (c .before .enum-told3) .given .1) ∙ ap (λ (e : ℕ). seek (codesOf ((c .before .before .before .before .before .before .before .before .before .before .before .args) .codes .now)) ((c .before .before .before .before .before .before .before .before .before .before .before .args) .n - ((c .before .before .before .before .before .before .loop) .i + 1)) ((c .before .before .before .before .before .before .before .before .before .before .before .args) .id .now) (drop e ((c .before .before .before .before .before .before .before .before .before .before .before .args) .s .now))) (sym ((c .skip-record2) .ensures)))
+loop-again c = (omega arith, omega (arith, (c .skip-record2) .ensures), (c .before .before .before .before .before .before .loop) .inv .2 ∙ seek-on (codesOf ((c .before .before .before .before .before .before .before .before .before .before .before .args) .codes .now)) ((c .before .before .before .before .before .before .before .before .before .before .before .args) .id .now) ((c .before .before .before .before .before .before .before .before .before .before .before .args) .s .now) ((c .before .before .before .before .before .before .loop) .p) ((c .before .before .before .before .before .before .before .before .before .before .before .args) .n) ((c .before .before .before .before .before .before .loop) .i) _ ((c .before .before .before .before .text-at) .ensures) ((c .before .before .before .before .before .loop-test) .taken) (sym (order-told ((c .before .before .before .compare) .ensures)) ∙ (c .before .enum-told3) .given .1) ∙ ap (λ (e : ℕ). seek (codesOf ((c .before .before .before .before .before .before .before .before .before .before .before .args) .codes .now)) ((c .before .before .before .before .before .before .before .before .before .before .before .args) .n - ((c .before .before .before .before .before .before .loop) .i + 1)) ((c .before .before .before .before .before .before .before .before .before .before .before .args) .id .now) (drop e ((c .before .before .before .before .before .before .before .before .before .before .before .args) .s .now))) (sym ((c .skip-record2) .ensures)))
 
 returns-3 : tie.Need-returns-3 Inv-loop μ-loop
 returns-3 c = sym (ap (placed ((c .before .before .before .before .before .before .args) .s .now)) ((c .before .loop) .inv .2) ∙ seek-end (codesOf ((c .before .before .before .before .before .before .args) .codes .now)) ((c .before .before .before .before .before .before .args) .id .now) ((c .before .before .before .before .before .before .args) .s .now) ((c .before .loop) .p) ((c .before .before .before .before .before .before .args) .n) ((c .before .loop) .i) ((c .before .loop) .inv .1) ((c .loop-test) .left))
