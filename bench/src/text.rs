@@ -7,6 +7,12 @@ use timing::{race, repeat};
 
 include!(env!("TEXT_RS"));
 
+#[link(name = "text_before", kind = "static")]
+extern "C" {
+    /// Of an older library. One from before steps were counted leaves the last argument alone.
+    fn before_text_compare(a: *const u8, a_size: usize, b: *const u8, b_size: usize, steps: *mut usize) -> u8;
+}
+
 fn is_utf8(s: &[u8]) -> bool {
     unsafe { text_is_utf8(s.as_ptr(), s.len()) }
 }
@@ -19,25 +25,17 @@ fn valid_sha256(s: &[u8]) -> bool {
     unsafe { text_valid_sha256(s.as_ptr(), s.len()) }
 }
 
-/// The order, and the steps.
+/// The order, and the steps, which `compare/run` holds to a plain count.
 fn compare(a: &[u8], b: &[u8]) -> (u8, usize) {
     let mut steps = usize::MAX;
     let order = unsafe { text_compare(a.as_ptr(), a.len(), b.as_ptr(), b.len(), &mut steps) };
     (order, steps)
 }
 
-/// One for each eight bytes where both have eight left, or else for each byte, up to and with the first that differ.
-fn steps(mut a: &[u8], mut b: &[u8]) -> usize {
-    let mut count = 0;
-    while !a.is_empty() && !b.is_empty() {
-        let taken = if a.len() >= 8 && b.len() >= 8 { 8 } else { 1 };
-        count += 1;
-        if a[..taken] != b[..taken] {
-            break;
-        }
-        (a, b) = (&a[taken..], &b[taken..]);
-    }
-    count
+fn before(a: &[u8], b: &[u8]) -> (u8, usize) {
+    let mut steps = usize::MAX;
+    let order = unsafe { before_text_compare(a.as_ptr(), a.len(), b.as_ptr(), b.len(), &mut steps) };
+    (order, steps)
 }
 
 /// The test of the publication crate, as it stands there.
@@ -80,13 +78,21 @@ fn each<'a, A>(pairs: &'a [Pair], compare: impl Fn(&[u8], &[u8]) -> A + 'a) -> i
 /// What compare costs on these pairs, in the mean.
 fn compare_row(name: &str, pairs: &[Pair]) {
     for (a, b) in pairs {
-        assert_eq!(compare(a, b), ((a.cmp(b) as i8 + 1) as u8, steps(a, b)), "order and steps of {a:?} and {b:?}");
+        for order in [compare(a, b).0, before(a, b).0] {
+            assert_eq!(i32::from(order) - 1, a.cmp(b) as i32, "order of {a:?} and {b:?}");
+        }
     }
     let mean = |sum: f64| sum / pairs.len() as f64;
-    let steps = mean(pairs.iter().map(|(a, b)| steps(a, b) as f64).sum());
-    let [ours, rust] = race([&mut repeat(each(pairs, compare)), &mut repeat(each(pairs, |a, b| a.cmp(b)))]);
+    let steps = mean(pairs.iter().map(|(a, b)| compare(a, b).1 as f64).sum());
+    let times = race([
+        &mut repeat(each(pairs, compare)),
+        &mut repeat(each(pairs, before)),
+        &mut repeat(each(pairs, |a, b| a.cmp(b))),
+    ]);
     let bytes = pairs[0].0.len();
-    println!("| {name} | {bytes} | {steps} | {:.2} | {:.2} | {:.2} |", mean(ours), mean(rust), ours / rust);
+    let [ours, before, rust] = times.map(mean);
+    let ratios = format!("{:.2} | {:.2}", ours / before, ours / rust);
+    println!("| {name} | {bytes} | {steps} | {ours:.2} | {before:.2} | {rust:.2} | {ratios} |");
 }
 
 fn ascii(n: usize) -> Vec<u8> {
@@ -125,7 +131,8 @@ fn main() {
     row("valid_sha256", 64, || valid_sha256(black_box(hash.as_bytes())), || rust_valid_sha256(black_box(&hash)));
 
     println!("\nNanoseconds a call of compare.\n");
-    println!("| Texts | Bytes | Steps | Ours | Rust's | Ratio |\n|---|---:|---:|---:|---:|---:|");
+    println!("| Texts | Bytes | Steps | Ours | Before | Rust's | Ours / before | Ours / Rust's |");
+    println!("|---|---:|---:|---:|---:|---:|---:|---:|");
     for n in LENGTHS {
         compare_row("equal", &[equal(ascii(n))]);
         compare_row("first byte differs", &[differing(n, 1)]);

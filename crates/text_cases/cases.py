@@ -121,6 +121,11 @@ for word in range(16):
     d = 8 * word + word % 8
     order((H + H, (H + H)[:d] + "!" + "~" * (127 - d)))
 
+case("# one byte less and more than a run of thirty-two, and than two of them")
+for n in (31, 32, 33, 63, 64, 65):
+    T = (H + H)[:n]
+    order((T, T), (T, T[:-1] + "!"), (T[:-1], T), (T + "!", T))
+
 case("# every length from 0 to 24 on both sides, and every place of the first difference")
 for n in range(25):
     for m in range(25):

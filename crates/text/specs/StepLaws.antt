@@ -12,7 +12,7 @@ use lib.ListN.{length, getD, take, drop, length-append, length-drop, take-append
 use lib.Seq.{drop-cons, getD-take, length-take-le, take-append-le, take-append-seam, take-length, drop-append-le}
 use borrow.Author.Tests.{eq-eqb, ne-eqb}
 use Rattle.text.specs.Same.{sameOf}
-use Rattle.text.specs.SameLaws.{same-refl, same-false, same-flip, eqb-flip}
+use Rattle.text.specs.SameLaws.{same-refl, same-false, same-flip, eqb-flip, cut-same}
 use Rattle.text.specs.Order.{byteSteps, wordSteps, stepsOf}
 
 -- ---- what both begin with
@@ -45,18 +45,17 @@ few : (s t : List ℕ) → min (length s) (length t) < 8 → stepsOf s t ≡ byt
 unfolding stepsOf wordSteps
 few s t h = let q : min (length s) (length t) / 8 ≡ 0 = omega arith in rw q
 
--- from the last whole eight on, byte by byte
-rest-past : (p s t : List ℕ) (n : ℕ) → n ≡ min (length (p ++ s)) (length (p ++ t)) → 8 * (n / 8) ≤ length p → stepsOf (p ++ s) (p ++ t) ≡ n / 8 + length p % 8 + byteSteps s t
-rest-past p s t n e h =
-    let w : ℕ = 8 * (n / 8) in
+-- behind the last whole eight, byte by byte
+rest-past : (k : ℕ) (p s t : List ℕ) → k ≡ min (length (p ++ s)) (length (p ++ t)) / 8 → 8 * k ≤ length p → stepsOf (p ++ s) (p ++ t) ≡ k + length p % 8 + byteSteps s t
+rest-past k p s t e h =
     let la = length-append p s in let lb = length-append p t in
-    let ld = length-drop (8 * (n / 8)) p in
-    let ls = length-append (drop (8 * (n / 8)) p) s in let lt = length-append (drop (8 * (n / 8)) p) t in
-    let at : (l : List ℕ) → p ++ l ≡ take (8 * (n / 8)) p ++ (drop (8 * (n / 8)) p ++ l) =
-    λ l. ap (λ (q : List ℕ). q ++ l) (sym (take-append-drop (8 * (n / 8)) p)) ∙ append-assoc (take (8 * (n / 8)) p) (drop (8 * (n / 8)) p) l in
-    ap (λ (l : List ℕ). stepsOf l (p ++ t)) (at s) ∙ ap (stepsOf (take (8 * (n / 8)) p ++ (drop (8 * (n / 8)) p ++ s))) (at t)
-    ∙ steps-past (n / 8) (take (8 * (n / 8)) p) (drop (8 * (n / 8)) p ++ s) (drop (8 * (n / 8)) p ++ t) (length-take-le (8 * (n / 8)) p h)
-    ∙ ap (λ (k : ℕ). n / 8 + k) (few (drop (8 * (n / 8)) p ++ s) (drop (8 * (n / 8)) p ++ t) (omega arith) ∙ bytes-past (drop (8 * (n / 8)) p) s t)
+    let ld = length-drop (8 * k) p in
+    let ls = length-append (drop (8 * k) p) s in let lt = length-append (drop (8 * k) p) t in
+    let at : (l : List ℕ) → p ++ l ≡ take (8 * k) p ++ (drop (8 * k) p ++ l) =
+    λ l. ap (λ (q : List ℕ). q ++ l) (sym (take-append-drop (8 * k) p)) ∙ append-assoc (take (8 * k) p) (drop (8 * k) p) l in
+    ap (λ (l : List ℕ). stepsOf l (p ++ t)) (at s) ∙ ap (stepsOf (take (8 * k) p ++ (drop (8 * k) p ++ s))) (at t)
+    ∙ steps-past k (take (8 * k) p) (drop (8 * k) p ++ s) (drop (8 * k) p ++ t) (length-take-le (8 * k) p h)
+    ∙ ap (λ (m : ℕ). k + m) (few (drop (8 * k) p ++ s) (drop (8 * k) p ++ t) (omega arith) ∙ bytes-past (drop (8 * k) p) s t)
     ∙ omega arith
 
 -- ---- up to and with the first that differ
@@ -77,23 +76,18 @@ none-left (x ∷ s) [] e = refl
 none-left (x ∷ s) (y ∷ t) e = let z : _≡_ {A = ℕ} 0 1 = omega arith in cc
 
 module _ (a b : List ℕ) (i : ℕ) (e : take i a ≡ take i b) where
-  second : take i a ++ drop i b ≡ b
-  second = ap (λ (l : List ℕ). l ++ drop i b) e ∙ take-append-drop i b
-
-  parted : stepsOf a b ≡ stepsOf (take i a ++ drop i a) (take i a ++ drop i b)
-  parted = ap (λ (l : List ℕ). stepsOf l b) (sym (take-append-drop i a)) ∙ ap (stepsOf (take i a ++ drop i a)) (sym second)
-
   pub steps-to-word : i % 8 ≡ 0 → i + 8 ≤ length a → i + 8 ≤ length b → (take 8 (drop i a) ≡ take 8 (drop i b) → ⊥) → stepsOf a b ≡ i / 8 + 1
   steps-to-word m h k d =
       let la = length-drop i a in let lb = length-drop i b in
       let w : length (take i a) ≡ i = length-take-le i a (omega arith) in
-      parted ∙ steps-past (i / 8) (take i a) (drop i a) (drop i b) (omega arith) ∙ ap (λ (k : ℕ). i / 8 + k) (first-word (drop i a) (drop i b) (omega arith) (omega arith) d)
+      cut-same stepsOf i a b e ∙ steps-past (i / 8) (take i a) (drop i a) (drop i b) (omega arith) ∙ ap (λ (k : ℕ). i / 8 + k) (first-word (drop i a) (drop i b) (omega arith) (omega arith) d)
 
   to-rest : (n : ℕ) → n ≡ min (length a) (length b) → 8 * (n / 8) ≤ i → i ≤ n → stepsOf a b ≡ i / 8 + i % 8 + byteSteps (drop i a) (drop i b)
   to-rest n q h k =
       let w : length (take i a) ≡ i = length-take-le i a (omega arith) in
-      let la = ap length (take-append-drop i a) in let lb = ap length second in
-      parted ∙ rest-past (take i a) (drop i a) (drop i b) n (omega arith) (omega arith) ∙ omega arith
+      let la = length-append (take i a) (drop i a) in let lb = length-append (take i a) (drop i b) in
+      let da = length-drop i a in let db = length-drop i b in
+      cut-same stepsOf i a b e ∙ rest-past (n / 8) (take i a) (drop i a) (drop i b) (omega arith) (omega arith) ∙ omega arith
 
   pub steps-to-byte : (n : ℕ) → n ≡ min (length a) (length b) → 8 * (n / 8) ≤ i → i < n → (getD a i 0 ≡ getD b i 0 → ⊥) → stepsOf a b ≡ i / 8 + i % 8 + 1
   steps-to-byte n q h k d = to-rest n q h (omega arith) ∙ ap (λ (m : ℕ). i / 8 + i % 8 + m) (byte-off a b i (omega arith) (omega arith) d)

@@ -131,19 +131,59 @@ fn write_digit(yes: bool) {
 
 // Bytes that two texts have where they differ, by turns: the neighbours of 0x80, the ends of all bytes, and two above 0x80.
 // In 24 bytes each of the three stands at each place of a word.
-const SMALLER: [u8; 3] = [0x7F, 0x00, 0xFE];
+const SMALLER: [u8; 24] = [
+    0x7F,
+    0x00,
+    0xFE,
+    0x7F,
+    0x00,
+    0xFE,
+    0x7F,
+    0x00,
+    0xFE,
+    0x7F,
+    0x00,
+    0xFE,
+    0x7F,
+    0x00,
+    0xFE,
+    0x7F,
+    0x00,
+    0xFE,
+    0x7F,
+    0x00,
+    0xFE,
+    0x7F,
+    0x00,
+    0xFE,
+];
 
-const LARGER: [u8; 3] = [0x80, 0xFF, 0xFF];
-
-fn repeated(bytes: [u8; 3]) -> [u8; 24] {
-    let mut text = [0u8; 24];
-    let mut i = 0;
-    while i < 24 {
-        text[i] = bytes[i % 3];
-        i += 1;
-    }
-    text
-}
+const LARGER: [u8; 24] = [
+    0x80,
+    0xFF,
+    0xFF,
+    0x80,
+    0xFF,
+    0xFF,
+    0x80,
+    0xFF,
+    0xFF,
+    0x80,
+    0xFF,
+    0xFF,
+    0x80,
+    0xFF,
+    0xFF,
+    0x80,
+    0xFF,
+    0xFF,
+    0x80,
+    0xFF,
+    0xFF,
+    0x80,
+    0xFF,
+    0xFF,
+];
 
 // Compares the first n bytes of one with the first m of the other.
 fn compare_heads(a: [u8; 24], n: usize, b: [u8; 24], m: usize)
@@ -157,15 +197,15 @@ fn each_place(n: usize, m: usize)
     requires { ⌜ (n ≤ 24) × (m ≤ 24) ⌝ }
 {
     write(b" ");
-    let mut a = repeated(LARGER);
-    let mut b = repeated(SMALLER);
+    let mut a = LARGER;
+    let mut b = SMALLER;
     let mut d = 0;
     while d < n && d < m {
-        a[d] = SMALLER[d % 3];
-        b[d] = LARGER[d % 3];
+        a[d] = SMALLER[d];
+        b[d] = LARGER[d];
         compare_heads(a, n, b, m);
         compare_heads(b, n, a, m);
-        b[d] = SMALLER[d % 3];
+        b[d] = SMALLER[d];
         d += 1;
     }
     compare_heads(b, n, b, m);

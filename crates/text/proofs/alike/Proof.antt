@@ -54,7 +54,9 @@ loop-less : tie.Need-loop-less Inv-loop μ-loop
 loop-less c = search needs
 
 loop-again : tie.Need-loop-again Inv-loop μ-loop
-loop-again c = (omega arith, omega (arith, (c .before .before .before .before .before .loop) .inv .1), take-on ((c .before .before .before .before .before .before .before .before .args) .a .now) ((c .before .before .before .before .before .before .before .before .args) .b .now) ((c .before .before .before .before .before .loop) .i) ((c .before .before .before .before .before .loop) .i + 32) (omega arith) ((c .before .before .before .before .before .loop) .inv .2) (same-true _ _ (sym ((c .before .same) .ensures) ∙ not-false _ ((c .if1) .left))))
+loop-again c =
+    let s = c .before in let l = s .before .before .before .before in let g = l .before .before .before in
+    (omega arith, omega (arith, l .loop .inv .1), take-on (g .args .a .now) (g .args .b .now) (l .loop .i) (l .loop .i + 32) (omega arith) (l .loop .inv .2) (same-true _ _ (sym (s .same .ensures) ∙ not-false _ (c .if1 .left))))
 
 returns-2 : tie.Need-returns-2 Inv-loop μ-loop
 returns-2 c = (c .before .loop) .inv

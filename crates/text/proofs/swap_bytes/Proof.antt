@@ -2,8 +2,6 @@
 -- Assumes nothing.
 use Rattle.parts.specs.Digits.{digits}
 use Rattle.text.specs.Words.{bigFrom, bigOf}
-use Rattle.text.specs.Words.{bigOf}
-use Rattle.parts.specs.Digits.{digits}
 use borrow.Author.Needs.{needs}
 use Rattle.text.proofs.swap_bytes.Statement.{statement}
 use Rattle.text.proofs.swap_bytes.Tie as tie

@@ -17,12 +17,6 @@ slice-aggregate-write c = search needs
 write-requires : tie.Need-write-requires Inv-loop μ-loop
 write-requires c κs = search needs
 
-repeated-requires : tie.Need-repeated-requires Inv-loop μ-loop
-repeated-requires c κs = search needs
-
-repeated-requires-2 : tie.Need-repeated-requires-2 Inv-loop μ-loop
-repeated-requires-2 c κs = search needs
-
 loop-holds : tie.Need-loop-holds Inv-loop μ-loop
 loop-holds c = search needs
 
@@ -73,8 +67,6 @@ each-place-spec =
     μ-loop
     slice-aggregate-write
     write-requires
-    repeated-requires
-    repeated-requires-2
     loop-holds
     array-read-a
     array-write-a

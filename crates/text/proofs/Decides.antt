@@ -7,13 +7,14 @@ use mathlib.Core.Path.{_≡_, sym, ap, _∙_}
 use mathlib.Core.Bool.{Bool, cond}
 use mathlib.Core.List.{List, [], _∷_, _++_}
 use lib.Dec.{ltb}
-use lib.ListN.{length, getD, take, drop, length-drop, take-append-drop}
+use lib.ListN.{length, getD, take, drop, length-drop}
 use lib.Seq.{drop-cons, length-take-le, take-suc}
-use borrow.Author.Tests.{lt-ltb}
+use borrow.Author.Tests.{lt-ltb, le-ltb}
 use Rattle.parts.specs.Digits.{Bytes, digits, value}
 use Rattle.parts.specs.DigitLaws.{bytes-drop, bytes-take, digits-value, value-same}
 use Rattle.text.specs.Order.{orderOf, stepsOf}
-use Rattle.text.specs.OrderLaws.{Heads, heads, less, same, more}
+use Rattle.text.specs.OrderLaws.{Heads, heads, less, same, more, head-less, head-more}
+use Rattle.text.specs.SameLaws.{cut}
 use Rattle.text.specs.StepLaws.{steps-to-word, steps-to-byte, steps-to-end}
 use Rattle.text.specs.Words.{bigOf, order-words}
 use Rattle.text.specs.declared.Compared.{Compared}
@@ -26,13 +27,12 @@ told e f = λ i. record { order = e i; steps = f i }
 
 -- heads that differ
 heads-decide : (x y : ℕ) (s t : List ℕ) → (x ≡ y → ⊥) → orderOf (x ∷ s) (y ∷ t) ≡ cond (ltb x y) Less Greater
-unfolding orderOf
 heads-decide x y s t d = go (heads x y)
   where
-    go : Heads x y → cond (ltb x y) Less (cond (ltb y x) Greater (orderOf s t)) ≡ cond (ltb x y) Less Greater
-    go (less h) = rw (lt-ltb x y h)
+    go : Heads x y → orderOf (x ∷ s) (y ∷ t) ≡ cond (ltb x y) Less Greater
+    go (less h) = rw (lt-ltb x y h) (head-less x y s t h)
     go (same h) = absurd (d h)
-    go (more h) = rw (lt-ltb y x h)
+    go (more h) = rw (le-ltb x y (omega arith)) (head-more x y s t h)
 
 module _ (a b : List ℕ) (n i : ℕ) (q : n ≡ min (length a) (length b)) (e : take i a ≡ take i b) where
   order-here : orderOf a b ≡ orderOf (drop i a) (drop i b)
@@ -65,7 +65,7 @@ module _ (a b : List ℕ) (n i : ℕ) (q : n ≡ min (length a) (length b)) (e :
     word-tells t k et ek m d =
         told
         (rw (et, turned a (omega arith) ba x ex, turned b (omega arith) bb y ey)
-        (sym (order-here ∙ ap (λ (l : List ℕ). orderOf l (drop i b)) (sym (take-append-drop 8 (drop i a))) ∙ ap (orderOf (take 8 (drop i a) ++ drop 8 (drop i a))) (sym (take-append-drop 8 (drop i b)))
+        (sym (order-here ∙ cut orderOf 8 (drop i a) (drop i b)
         ∙ order-words (take 8 (drop i a)) (take 8 (drop i b)) (drop 8 (drop i a)) (drop 8 (drop i b)) long (bytes a ba) (bytes b bb) (differs d))))
         (let w = steps-to-word a b i e m (omega arith) (omega arith) (differs d) in omega arith)
 
