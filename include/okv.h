@@ -1,9 +1,9 @@
 /* The publication authority of objectKV over byte images: which object may be deleted.
  *
  * Every call takes any bytes and any lengths. It either refuses with a number and changes no byte of the slices that
- * it was lent, or it answers as the Rust's `apply` and `validate_active_snapshot_lease` answer, with the ended leases in
- * another order (see okv_apply); each promise below is proved. A slice is a pointer and then its length; an empty slice
- * may have any pointer that is not null. Slices that a call writes must not overlap the others.
+ * it was lent, or it answers as the Rust's `apply` and `validate_active_snapshot_lease` answer, but for two things that
+ * okv_apply says of leases; each promise below is proved. A slice is a pointer and then its length; an empty slice may
+ * have any pointer that is not null. Slices that a call writes must not overlap the others.
  *
  * README.md says of each number when it is given.
  */
@@ -93,6 +93,9 @@ uint32_t okv_test(const uint8_t *image, size_t image_size);
 /* Applies one request to an image. On 0, next holds the next image and outcome the outcome, and the two lengths say
  * how many bytes each has; bytes past them keep their value. On any other number both lengths are 0 and neither slice
  * has changed. The image itself is never written.
+ *
+ * AcquireLease and RenewLease answer 10 where the closure, of the request or of the stored lease, names a reserved key;
+ * that is tested right after 24, and no fault flag skips it. A stored lease with such a key remains until it ends.
  *
  * The ids of the outcome LeasesExpired stand in the order in which the leases ran out: by deadline, the earliest first;
  * of one deadline by the smaller epoch; of one epoch by id, in the order of bytes. They need not ascend. */

@@ -1,5 +1,6 @@
 // The functions of okv.h for Rust, to be taken into a module by `include!`. The linker finds libokv.a by `-L`. What each
-// promises stands in okv.h; other than the Rust's own, the ids of `LeasesExpired` stand by deadline, then epoch, then id.
+// promises stands in okv.h; other than the Rust's own, `AcquireLease` and `RenewLease` refuse a lease that names a reserved
+// key with 10, and the ids of `LeasesExpired` stand by deadline, then epoch, then id.
 #[link(name = "okv", kind = "static")]
 #[allow(dead_code)]
 extern "C" {

@@ -39,9 +39,24 @@ pub fn apply(image: &[u8], request: &[u8], lent: &mut Lent) -> (u32, usize, usiz
     (status, n, m)
 }
 
-/// The Rust's `apply` with the ended leases in the library's order: by deadline, then epoch, then id. The Rust lists them
-/// by id, and a sort that keeps equal ones as they stand compares no id.
+/// Whether a lease that is asked for, or renewed, names a reserved key.
+fn names_reserved(state: &PublicationAuthorityState, action: &PublicationAction) -> bool {
+    let closure = match action {
+        PublicationAction::AcquireLease { closure, .. } => Some(closure),
+        PublicationAction::RenewLease { lease_id, .. } => {
+            state.leases.get(lease_id).map(|lease| &lease.closure)
+        }
+        _ => None,
+    };
+    let reserved = |key| state.deletion_reservations.contains_key(key);
+    closure.is_some_and(|closure| closure.object_keys.iter().any(reserved))
+}
+
+/// The Rust's `apply` with what the library does beside it. It looks for reserved keys of a lease: no call here has any. And
+/// it lists ended leases by deadline, then epoch, then id; the Rust lists them by id, and a sort that keeps equal ones as they
+/// stand compares no id.
 fn rust_apply_to(state: &mut PublicationAuthorityState, request: &Request) -> PublicationTransition {
+    assert!(!names_reserved(state, &request.action), "a lease on a reserved key");
     let ended = match request.action {
         PublicationAction::AdvanceLeaseClock { next_tick, .. } => {
             let ended = state.leases.values().filter(|lease| lease.deadline_tick <= next_tick);

@@ -13,7 +13,7 @@ pub enum Flags {
 }
 
 pub const ACTIONS: u8 = 17;
-const ALL_FLAGS: u16 = (1 << FLAGS) - 1;
+pub const ALL_FLAGS: u16 = (1 << FLAGS) - 1;
 
 /// An action in an ordinary context, flags off.
 pub fn plain(action: PublicationAction) -> Request {

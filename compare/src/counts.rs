@@ -4,7 +4,7 @@ use crate::decode::{self, Read, Request};
 use crate::expiry::{Neighbours, NEIGHBOURS};
 use crate::oracle::{self, Answer};
 use crate::texts::{self, Kind, Place};
-use crate::{encode, limits};
+use crate::{encode, limits, reserved};
 use okv_publication::{PublicationAuthorityState, SnapshotLeaseToken};
 use std::collections::BTreeMap;
 
@@ -16,8 +16,9 @@ pub enum Input {
     Token,
 }
 
-/// The statuses that the Rust gives for each action, in the order in which it tests them; 44 where the action can make
-/// a table longer. Beside these each action is accepted, and refused with 45 and 46 for want of room.
+/// The statuses that the Rust gives for each action, in the order in which it tests them; then 10 of leases, which it does
+/// not test, and 44 where the action can make a table longer. Beside these each action is accepted, and refused with 45 and
+/// 46 for want of room.
 ///
 /// Status 1 (`GenerationFenced`) is given by no line of the Rust. All others of 0 to 36 and 40 to 46 must come.
 const STATUSES: [&[u32]; 17] = [
@@ -25,8 +26,8 @@ const STATUSES: [&[u32]; 17] = [
     &[2, 17],
     &[2, 27],
     &[2, 36, 32],
-    &[2, 18, 21, 19, 20, 24, 44],
-    &[2, 22, 23, 24],
+    &[2, 18, 21, 19, 20, 24, 10, 44],
+    &[2, 22, 23, 24, 10],
     &[2, 22, 23],
     &[2, 25, 26],
     &[2, 29, 32, 28, 36, 34, 33, 7, 44],
@@ -50,6 +51,10 @@ pub struct Counts {
     /// Lists of ended leases, by how many they are and by what stands side by side in them.
     pub ended: BTreeMap<usize, u64>,
     pub neighbours: BTreeMap<Neighbours, u64>,
+    /// Calls about leases and reserved keys, by action and kind, and how often one in a history from the default state with
+    /// flags off refused a new lease.
+    pub reserved: BTreeMap<(u8, reserved::Kind), u64>,
+    pub reserved_in_history: u64,
     /// By action and status, of requests that can be read.
     pub actions: BTreeMap<(u8, u32), u64>,
     /// By kind of input and its first fault.
@@ -82,6 +87,11 @@ impl Counts {
             .sum()
     }
 
+    /// How often an action had this status.
+    pub fn came(&self, action: u8, status: u32) -> u64 {
+        self.actions.get(&(action, status)).copied().unwrap_or(0)
+    }
+
     fn fault<T>(&mut self, input: Input, read: &Read<T>) {
         if let Err(fault) = read {
             *self.faults.entry((input, *fault)).or_default() += 1;
@@ -103,6 +113,7 @@ impl Counts {
         &mut self,
         state: &Read<PublicationAuthorityState>,
         request: &Read<Request>,
+        lent: (usize, usize),
         answer: &Answer,
     ) {
         *self.apply.entry(answer.status).or_default() += 1;
@@ -112,9 +123,24 @@ impl Counts {
         if let Ok(request) = request {
             let action = encode::action_byte(&request.action);
             *self.actions.entry((action, answer.status)).or_default() += 1;
+            self.reserved(state, request, lent, answer.status);
         }
         if let (Ok(state), Some(lease_ids)) = (state, decode::ended(&answer.outcome)) {
             self.ended(&lease_ids, state);
+        }
+    }
+
+    fn reserved(
+        &mut self,
+        state: &Read<PublicationAuthorityState>,
+        request: &Request,
+        lent: (usize, usize),
+        status: u32,
+    ) {
+        let Ok(state) = state else { return };
+        let action = encode::action_byte(&request.action);
+        for kind in reserved::kinds(state, request, lent, status) {
+            *self.reserved.entry((action, kind)).or_default() += 1;
         }
     }
 
@@ -157,7 +183,9 @@ impl Counts {
             Err(_) => return,
         };
         match texts::first_difference(ids[0].as_bytes(), ids[1].as_bytes()) {
-            Some((same, place)) if same >= ALIKE_BYTES => *self.alike.entry((place, in_order)).or_default() += 1,
+            Some((same, place)) if same >= ALIKE_BYTES => {
+                *self.alike.entry((place, in_order)).or_default() += 1
+            }
             _ => {}
         }
     }
@@ -184,6 +212,10 @@ impl Counts {
         println!("outcomes: {:?}", self.outcomes);
         let fewest = self.ended.iter().min_by_key(|(_, count)| **count);
         println!("rarest number of ended leases: {fewest:?}, neighbours: {:?}", self.neighbours);
+        let kinds = reserved::every_kind();
+        let rarest = kinds.iter().filter_map(|kind| self.reserved.get_key_value(kind));
+        let rarest = rarest.min_by_key(|(_, count)| **count);
+        println!("rarest call about a reserved key: {rarest:?}, in histories: {}", self.reserved_in_history);
         println!("validate: {:?}, {} of ended leases", self.validate, self.used_anew);
         println!("test: {:?}, default: {:?}", self.test, self.default);
         let rarest = self.actions.iter().min_by_key(|(_, count)| **count);
@@ -251,6 +283,14 @@ impl Counts {
             if !self.ended.contains_key(&ended) {
                 missing.push(format!("{ended} ended leases"));
             }
+        }
+        for (action, kind) in reserved::every_kind() {
+            if !self.reserved.contains_key(&(action, kind)) {
+                missing.push(format!("{kind:?} of a reserved key, action {action}"));
+            }
+        }
+        if self.reserved_in_history == 0 {
+            missing.push("a history that refuses a lease on a reserved key".to_owned());
         }
         for place in texts::every_place() {
             for in_order in [true, false] {

@@ -37,7 +37,7 @@ impl Held {
                 let (image, request) = (image.to_vec(), request.to_vec());
                 self.differs(Call::Apply { image, request, room, outcome_room });
             }
-            self.counts.applied(&state, &read, &want);
+            self.counts.applied(&state, &read, (room, outcome_room), &want);
         }
         if let Transition::Accepted { next, .. } = &transition {
             self.counts.length("apply", next.len(), IMAGE);
@@ -106,7 +106,7 @@ fn rooms(transition: &Transition, lend: Lend) -> Vec<(usize, usize)> {
     let mut rooms = vec![(ROOM, OUTCOME_ROOM)];
     match (lend, transition) {
         (Lend::Ample, _) => {}
-        (Lend::Tight, Transition::Refused(_)) => rooms.push((0, 0)),
+        (Lend::Tight, Transition::Refused(_)) => rooms.extend([(0, 0), (ROOM, 0)]),
         (Lend::Tight, Transition::Accepted { next, outcome, .. }) => {
             let around = |length: usize| [length, length - 1, length + 1, 0];
             for room in around(next.len()) {

@@ -1,9 +1,10 @@
-//! Holds libokv.a and okvstep to the Rust, and text_compare of libtext_c.a to Rust's own order of bytes:
+//! Holds libokv.a and okvstep to the answers of the Rust as document 02 changes them, and text_compare of libtext_c.a to
+//! Rust's own order of bytes:
 //!
 //! - `compare`: at least 300,000 calls on fixed seeds, and comparisons of texts beside them; `compare SEED CALLS`: so many
 //!   from this seed on, where few calls do not reach all that must come;
-//! - `compare lines FILE`: the lines that okvstep must print for these frames, as the Rust answers them;
-//! - `compare sample FOLDER`: the data file of calls and the Rust's answers for the program `replay`.
+//! - `compare lines FILE`: the lines that okvstep must print for these frames, by these answers;
+//! - `compare sample FOLDER`: the data file of calls and these answers for the program `replay`.
 mod actions;
 mod aim;
 mod call;
@@ -18,6 +19,7 @@ mod limits;
 mod okvstep;
 mod oracle;
 mod permit;
+mod reserved;
 mod rng;
 mod runs;
 mod sample;

@@ -10,7 +10,7 @@ use std::process::{Command, Stdio};
 /// The program, from the folder of the repository.
 const PROGRAM: &str = "target/bin/okvstep";
 
-/// The lines for an input, as the Rust answers its frames.
+/// The lines for an input.
 pub fn lines(input: &[u8]) -> String {
     let mut out = "step status frontier policy readable collected clock epoch\n".to_owned();
     let mut state = PublicationAuthorityState::default();

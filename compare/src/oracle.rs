@@ -1,6 +1,6 @@
 //! What documents 01 and 02 and the Rust answer to a call over bytes.
 use crate::decode::{self, Read, Request};
-use crate::{encode, expiry, limits};
+use crate::{encode, expiry, limits, reserved};
 use okv_publication::*;
 
 /// The status, and what was written; nothing after a refusal.
@@ -49,18 +49,32 @@ pub fn transition(state: &Read<PublicationAuthorityState>, request: &Read<Reques
         Ok(request) => request,
         Err(fault) => return Transition::Refused(fault.number()),
     };
-    let mut next = state.clone();
-    let answer = next.apply(&request.action, request.context, request.faults);
-    let Some(outcome) = answer.outcome else {
-        assert_eq!(&next, state, "a refusal changed the Rust's state");
-        return Transition::Refused(answer.status as u32);
+    let (next, outcome) = match step(state, request) {
+        Ok(step) => step,
+        Err(status) => return Transition::Refused(status),
     };
     if limits::over(&next).is_some() {
         return Transition::Refused(44);
     }
-    let outcome = expiry::in_order(outcome, state);
     let (bytes, outcome) = (encode::image(&next).bytes, encode::outcome(&outcome).bytes);
     Transition::Accepted { state: next, next: bytes, outcome }
+}
+
+/// The next state and the outcome, or the status of a refusal: the Rust's, as document 02 changes it.
+fn step(
+    state: &PublicationAuthorityState,
+    request: &Request,
+) -> Result<(PublicationAuthorityState, PublicationOutcome), u32> {
+    let mut next = state.clone();
+    let answer = next.apply(&request.action, request.context, request.faults);
+    let Some(outcome) = answer.outcome else {
+        assert_eq!(&next, state, "a refusal changed the Rust's state");
+        return Err(answer.status as u32);
+    };
+    if reserved::refuses(state, &request.action) {
+        return Err(10);
+    }
+    Ok((next, expiry::in_order(outcome, state)))
 }
 
 pub fn validate(state: &Read<PublicationAuthorityState>, token: &Read<SnapshotLeaseToken>) -> u32 {
@@ -90,14 +104,10 @@ pub fn default_image(room: usize) -> (u32, Vec<u8>) {
     (0, image)
 }
 
-/// The fault flags without which the Rust would answer or leave something else.
+/// The fault flags without which something else would be answered or left.
 pub fn deciding_flags(state: &PublicationAuthorityState, request: &Request) -> Vec<usize> {
-    let apply = |flags: u16| {
-        let mut next = state.clone();
-        let answer = next.apply(&request.action, request.context, decode::faults(flags));
-        (answer, next)
-    };
+    let with = |flags: u16| step(state, &Request { faults: decode::faults(flags), ..request.clone() });
     let flags = encode::flags(request.faults);
     let on = (0..limits::FLAGS).filter(|bit| flags >> bit & 1 == 1);
-    on.filter(|bit| apply(flags) != apply(flags & !(1 << bit))).collect()
+    on.filter(|bit| with(flags) != with(flags & !(1 << bit))).collect()
 }

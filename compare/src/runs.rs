@@ -1,5 +1,5 @@
-//! The runs: histories, full tables, leases that end, ids alike, full images, damaged bytes, okvstep, and texts. A seed gives
-//! one run.
+//! The runs: histories, full tables, leases that end, leases on reserved keys, ids alike, full images, damaged bytes,
+//! okvstep, and texts. A seed gives one run.
 use crate::actions::{plain, Flags, ACTIONS};
 use crate::aim::damaged;
 use crate::counts::{all_came, grown_by};
@@ -9,6 +9,7 @@ use crate::encode;
 use crate::held::{Held, Lend};
 use crate::limits::*;
 use crate::oracle::{self, Transition};
+use crate::reserved::{self, ACQUIRE, RENEW};
 use crate::rng::Rng;
 use crate::states::{filling, fillings, reservations, Fill, ALIKE, FILLING, FILLING_MOST};
 use crate::texts;
@@ -60,6 +61,7 @@ fn one(held: &mut Held, run: u64) {
             tables(held, g);
             expiries(held, g);
             alike(held, g);
+            on_reserved(held, g);
         }
         4 => lengths(held, g),
         5 | 6 => damage(held, g),
@@ -70,6 +72,9 @@ fn one(held: &mut Held, run: u64) {
 /// Requests one after another, each on what the one before left, and tokens that were given on the way.
 fn history(held: &mut Held, g: &mut Gen, mut state: PublicationAuthorityState, length: usize) {
     let flags = g.rng.pick(&[Flags::Off, Flags::Any]);
+    // what request K3 claims is of such a history
+    let claimed = flags == Flags::Off && state == PublicationAuthorityState::default();
+    let refused = held.counts.came(ACQUIRE, 10);
     let mut tokens = Tokens::default();
     for _ in 0..length {
         held.step += 1;
@@ -79,12 +84,16 @@ fn history(held: &mut Held, g: &mut Gen, mut state: PublicationAuthorityState, l
         if let Some(next) = held.apply(&image, &request, lend) {
             state = next;
         }
+        assert!(!(claimed && reserved::stands(&state)), "a live lease names a reserved key");
         let image = encode::image(&state).bytes;
         held.validate(&image, &encode::token(&g.token(&state)).bytes);
         tokens.see(&state);
         if let Some(token) = tokens.pick(held, g, &state) {
             held.validate(&image, &encode::token(&token).bytes);
         }
+    }
+    if claimed {
+        held.counts.reserved_in_history += held.counts.came(ACQUIRE, 10) - refused;
     }
 }
 
@@ -178,6 +187,19 @@ fn expiries(held: &mut Held, g: &mut Gen) {
         let (state, request) = g.expiry(ended);
         let (image, request) = (encode::image(&state).bytes, encode::request(&request).bytes);
         held.apply(&image, &request, lend(g));
+    }
+}
+
+/// Leases on reserved keys, with each set of fault flags.
+fn on_reserved(held: &mut Held, g: &mut Gen) {
+    g.shape = g.rng.pick(&[SMALL, MANY, ALIKE]);
+    for action in [ACQUIRE, RENEW].repeat(2) {
+        for flags in reserved::flag_sets() {
+            held.step += 1;
+            let (state, request) = g.on_reserved(action, flags);
+            let (image, request) = (encode::image(&state).bytes, encode::request(&request).bytes);
+            held.apply(&image, &request, Lend::Tight);
+        }
     }
 }
 

@@ -19,6 +19,7 @@ use crate::decode::{self, Fault, Request};
 use crate::expiry::NEIGHBOURS;
 use crate::limits::*;
 use crate::oracle::{self, Answer, Transition};
+use crate::reserved::{self, flag_sets, Kind, Place::*, ACQUIRE, RELEASE, RENEW};
 use crate::states::{fillings, reservations, Fill, ALIKE};
 use crate::texts::{every_place, first_difference, Place};
 use crate::values::{Gen, Shape, Texts};
@@ -49,6 +50,7 @@ pub fn write(folder: &Path) -> std::io::Result<bool> {
     sample.limits();
     sample.expiries();
     sample.alike();
+    sample.on_reserved();
     println!("{} cases in {} bytes", sample.cases, sample.stdin.len());
     sample.counts.print();
     let complete = all_came(&sample.counts.missing_answers());
@@ -100,7 +102,7 @@ impl Sample {
         let transition = oracle::transition(&state, &read);
         let answer = transition.answer(room, outcome_room);
         self.counts.read(&state, &read);
-        self.counts.applied(&state, &read, &answer);
+        self.counts.applied(&state, &read, (room, outcome_room), &answer);
         self.case(1, format!("apply {}", answer.status));
         self.bytes(request);
         self.number(room);
@@ -369,6 +371,41 @@ impl Sample {
             }
         }
     }
+
+    /// Leases on reserved keys, each as small as can be: the key at each place; with each set of fault flags and nothing
+    /// lent; and what comes in place of 10.
+    fn on_reserved(&mut self) {
+        for action in [ACQUIRE, RENEW] {
+            self.play(&on_reserved(action, &[Kind::Before(24)]));
+            for place in [First, Middle, Last] {
+                let kinds = [Kind::InClosure(place), Kind::InTable(place), Kind::OfManifest(false)];
+                self.play(&on_reserved(action, &kinds));
+            }
+            let kinds = [Kind::InClosure(Only), Kind::InTable(Only), Kind::OfManifest(true)];
+            let (state, mut request) = on_reserved(action, &kinds);
+            for flags in flag_sets() {
+                request.faults = decode::faults(flags);
+                self.play(&(state.clone(), request.clone()));
+            }
+            for room in [0, ROOM] {
+                self.apply(&encode::request(&request).bytes, room, 0);
+            }
+        }
+        self.play(&on_reserved(ACQUIRE, &[Kind::FullTable]));
+        self.play(&on_reserved(RENEW, &[Kind::NotNamed]));
+        self.play(&on_reserved(RELEASE, &[Kind::Named]));
+    }
+}
+
+/// A call that is of all these kinds.
+fn on_reserved(action: u8, kinds: &[Kind]) -> Scene {
+    let has = |scene: &Scene| {
+        let (state, request) = scene;
+        let found = reserved::kinds(state, request, (ROOM, OUTCOME_ROOM), answer_of(scene).status);
+        encode::action_byte(&request.action) == action && kinds.iter().all(|kind| found.contains(kind))
+    };
+    let scene = search(0, |g| Some(g.on_reserved(action, 0)).filter(has));
+    shrink::value(scene, |scene| has_image(&scene.0) && has(scene))
 }
 
 /// Draws until there is what is looked for.

@@ -162,7 +162,12 @@ impl Gen {
     }
 
     pub fn reservation(&mut self) -> (String, DeletePermit) {
-        let (key, identity, plan_id) = (self.key(), self.identity(), self.id());
+        let key = self.key();
+        self.reservation_of(key)
+    }
+
+    pub fn reservation_of(&mut self, key: String) -> (String, DeletePermit) {
+        let (identity, plan_id) = (self.identity(), self.id());
         let permit = permit(&key, &identity, &plan_id, self.generation(), self.position());
         (key, permit)
     }

@@ -32,7 +32,7 @@ use Rattle.image.specs.declared.Table.{Table}
 use Rattle.image.specs.declared.Contents.{Contents}
 use Rattle.machine.specs.Actions.{rejected, CollectionPublished}
 use Rattle.machine.specs.Next.{collection-published}
-use Rattle.requests.specs.Meaning.{receiptOf, keysOf, contextOf, faultsOf, positionOf, requestOf}
+use Rattle.requests.specs.Meaning.{receiptOf, contextOf, faultsOf, positionOf, requestOf}
 use Rattle.requests.specs.declared.AuthorityContext.{AuthorityContext as ContextAt}
 use Rattle.requests.specs.declared.PublicationAuthorityFaults.{PublicationAuthorityFaults as FaultsAt}
 use Rattle.requests.specs.declared.CollectionReceipt.{CollectionReceipt as ReceiptAt}
@@ -48,7 +48,7 @@ use Rattle.next.specs.declared.PublicationOutcome.{PublicationOutcome}
 use Rattle.next.specs.Kept.{run-to, after-seam, root-here, root-size-here, small-here, before-jobs, tables-here}
 use Rattle.next.specs.Peeks.{skip-to}
 use Rattle.next.specs.Edit.{run-ahead, run-behind, past-place, start-is, end-is}
-use Rattle.reserved.specs.Located.{locatedIn, reserved-here}
+use Rattle.reserved.specs.Located.{reserved-here}
 use Rattle.edits.specs.Changes.{afterInsert, afterRemove}
 use Rattle.edits.specs.ChangeLaws.{insert-shown}
 use Rattle.publication.specs.References.{reference-long}
@@ -62,7 +62,7 @@ use Rattle.collection_jobs.specs.Rules.{told, told-no, else-cond}
 use Rattle.collection_jobs.specs.Prepare.{stale-tests}
 use Rattle.collection_publish.specs.Refusals.{sameManifest, tokenEnd, jobPlace, jobRow, publishRefusal}
 use Rattle.collection_publish.specs.Rule.{rest-number, published, publish-tests}
-use Rattle.image.specs.CodeLists.{job-codes, permit-codes}
+use Rattle.image.specs.CodeLists.{job-codes}
 
 -- ---- the numbers of the code's tests, one after another
 
@@ -192,12 +192,6 @@ module _ {x q : List ℕ} {c : Contents} {y : ContextAt} {g : FaultsAt} {a : Rec
         (λ i. sameOf (manifest-run q (tokenEnd q) output keys-bytes output-here output-low i) (manifest-run q (length id + 60) input after-input input-here input-low i))
         ∙ same-reference output input (pre .within .1 .1 .0) (pre .within .1 .0 .1 .1 .1 .1 .0)
 
-    reserved-is : any (locatedIn (codesOf (128 ∷ 12 ∷ 64 ∷ 12 ∷ 64 ∷ 8 ∷ 64 ∷ 64 ∷ 8 ∷ 8 ∷ 8 ∷ [])) (contentsOf s .reservations .count) (drop (contentsOf s .reservations .at) x)) (keysOf q (a .«object_keys»))
-        ≡ any (λ k. has-key k (s .deletion-reservations)) (receipt .object-keys)
-    reserved-is =
-        ap (λ (cs : List Code). any (locatedIn cs (contentsOf s .reservations .count) (drop (contentsOf s .reservations .at) x)) (keysOf q (a .«object_keys»))) permit-codes
-        ∙ reserved-here s x (pre .image-is) (pre .formed) (receipt .object-keys)
-
     abbrev T₆ : Bool
     T₆ = not (eqb (token .owner-generation) (y .generation))
 
@@ -219,7 +213,7 @@ module _ {x q : List ℕ} {c : Contents} {y : ContextAt} {g : FaultsAt} {a : Rec
         (λ i. or-else (cond (not (valid-receipt receipt)) 2 (cond (manifests i) 2 (cond missing 30 (cond (not equal) 35 (cond T₆ 6 0)))))
         (or-else (cond T₂₈ 28 (cond (T₃₆ (root-stored s x (pre .image-is) (pre .formed) (contentsOf s) refl i)) 36 (cond T₃₄ 34 0)))
         (cond (T₇ (input-stands s x (pre .image-is) (pre .formed) (contentsOf s) refl root q (length id + 60) input after-input input-here input-low (pre .within .1 .0 .1 .1 .1 .1 .0) i)) 7
-        (cond (reserved-is i) 10 0))))
+        (cond (reserved-here s x (pre .image-is) (pre .formed) (contentsOf s) refl (receipt .object-keys) i) 10 0))))
         ∙ ap (or-else (cond (not (valid-receipt receipt)) 2 (cond (reference-eq output input) 2 (cond missing 30 (cond (not equal) 35 (cond T₆ 6 0))))))
         (stale-tests T₂₈ (T₃₆ (s .collection-root)) T₃₄
         (cond (T₇ (same-option reference-eq (lookup root (s .roots)) (some input))) 7 (cond (any (λ k. has-key k (s .deletion-reservations)) (receipt .object-keys)) 10 0)))

@@ -7,7 +7,7 @@ use lib.Dec.{eqb}
 use lib.ListN.{length, take, drop}
 use borrow.Author.Tests.{eq-eqb, ne-eqb}
 use Rattle.text.specs.Same.{sameOf}
-use Rattle.state.specs.Maps.{Text, any}
+use Rattle.state.specs.Maps.{Text}
 use Rattle.state.specs.Records.{valid-receipt}
 use Rattle.fields.specs.Codes.{codesOf, skip}
 use Rattle.fields.specs.Walks.{placeOf}
@@ -18,7 +18,7 @@ use Rattle.requests.specs.Meaning.{textOf, keysOf, receiptOf}
 use Rattle.requests.specs.declared.AuthorityContext.{AuthorityContext as ContextAt}
 use Rattle.requests.specs.declared.PublicationAuthorityFaults.{PublicationAuthorityFaults as FaultsAt}
 use Rattle.requests.specs.declared.CollectionReceipt.{CollectionReceipt as ReceiptAt}
-use Rattle.reserved.specs.Located.{locatedIn}
+use Rattle.reserved.specs.Located.{reservedIn}
 use Rattle.collection_jobs.specs.Input.{manifestEnd, inputStands}
 use Rattle.collection_jobs.specs.Refusals.{staleAt, or-else}
 
@@ -67,7 +67,7 @@ module _ (x : List ℕ) (c : Contents) (q : List ℕ) (y : ContextAt) (f : Fault
   other root id = not (f .«ignore_collection_input_root») && not (inputStands x (c .roots) root q (length id + 60))
 
   abbrev held : Bool
-  held = any (locatedIn (codesOf (128 ∷ 12 ∷ 64 ∷ 12 ∷ 64 ∷ 8 ∷ 64 ∷ 64 ∷ 8 ∷ 8 ∷ 8 ∷ [])) (c .reservations .count) (drop (c .reservations .at) x)) (keysOf q (a .«object_keys»))
+  held = reservedIn x (c .reservations) (keysOf q (a .«object_keys»))
 
   -- THE FIRST REFUSAL OF A RECEIPT
   abbrev pub publishRefusal : ℕ

@@ -115,14 +115,7 @@ fn publish_refusal(
     if other_input(f.ignore_collection_input_root, stands) {
         return 7;
     }
-    if reserved::any_located(
-        &image::PERMIT,
-        image,
-        reservations.at,
-        reservations.count,
-        request,
-        keys.at,
-    ) {
+    if reserved::is_reserved(false, image, reservations, request, keys.at) {
         return 10;
     }
     0

@@ -14,7 +14,7 @@ use Rattle.state.specs.Maps.{Text, _⟼_, same-texts, is-empty, all}
 use Rattle.state.specs.Records.{AuthorityContext, no-faults, State, default}
 use Rattle.state.specs.Setters.{set-pins}
 use Rattle.machine.specs.Actions.{Action, ObserveCommittedFrontier, SetRetentionWindow, LeasesExpired}
-use Rattle.machine.specs.Edges.{Row, answers, answers-at, floors, ends, ends-loaded, collects, validates, pins-are, precedes, keys, manifest, table}
+use Rattle.machine.specs.Edges.{Row, answers, answers-at, floors, ends, answers-loaded, ends-loaded, collects, validates, pins-are, precedes, keys, manifest, table}
 use Rattle.image.specs.Layout.{encodeImage, decodeImage}
 use Rattle.requests.specs.Request.{encodeRequest, encodeToken}
 use Rattle.requests.specs.Outcome.{encodeOutcome}
@@ -75,6 +75,7 @@ on-bytes (answers-at c a n) = wrote (λ image. eqb (statusOf (reply-at c a image
 on-bytes (floors before p r) = leaves (λ s. eqb (s .policy-floor) p && eqb (s .minimum-readable-version) r) (run start before)
 on-bytes (ends before a l) = ends-all l (step a (run start before))
 on-bytes (collects before c r j) = leaves (λ s. eqb (s .physically-collected-through) c && eqb (s .minimum-readable-version) r && eqb (length (s .collection-jobs)) j) (run start before)
+on-bytes (answers-loaded load a n) = leaves (λ s. eqb (statusOf (reply a (encodeImage (load s)))) n) start
 on-bytes (ends-loaded load a l) = leaves (λ s. ends-all l (reply a (encodeImage (load s)))) start
 on-bytes (validates load t n) = leaves (λ s. eqb (validateBytes (encodeImage (load s)) (encodeToken t)) n) start
 on-bytes (pins-are before ids) = leaves (λ s. same-texts (keys (s .pins)) ids) (run start before)

@@ -9,20 +9,12 @@ use lib.Seq.{take-all}
 use borrow.Author.Tests.{eq-eqb, ne-eqb}
 use Rattle.text.specs.Same.{sameOf}
 use Rattle.parts.specs.Digits.{value}
-use Rattle.state.specs.Maps.{Text, any, is-empty}
-use Rattle.fields.specs.Codes.{Code, codes, codesOf, skip}
+use Rattle.state.specs.Maps.{is-empty}
+use Rattle.fields.specs.Codes.{Code, skip}
 use Rattle.fields.specs.Rows.{text-here}
 use Rattle.fields.specs.Walks.{Rest, placeOf, rest-place}
 use Rattle.tables.specs.Skips.{skip-rest}
-use Rattle.image.specs.Shapes.{permit}
-use Rattle.reserved.specs.Located.{locatedIn}
 use Rattle.intents.specs.StoredIntent.{from-manifest, from-root, from-prior, matchesIn, statusIn}
-use Rattle.image.specs.CodeLists.{permit-codes}
-
--- the test on reservations, with the codes of the source
-pub tested : (ignore b : Bool) (n : ℕ) (s : List ℕ) (ks : List Text) → ignore ≡ false → b ≡ any (locatedIn (codesOf (128 ∷ 12 ∷ 64 ∷ 12 ∷ 64 ∷ 8 ∷ 64 ∷ 64 ∷ 8 ∷ 8 ∷ 8 ∷ [])) n s) ks
-    → b ≡ (not ignore && any (locatedIn (codes permit) n s) ks)
-tested ignore b n s ks h e = e ∙ ap (λ (cs : List Code). any (locatedIn cs n s) ks) permit-codes ∙ ap (λ (t : Bool). not t && any (locatedIn (codes permit) n s) ks) (sym h)
 
 -- what is left after the first fields
 pub left-after : (cs : List Code) (s r : List ℕ) (p : ℕ) → p ≡ placeOf s (skip 0 cs (drop 0 s)) → r ≡ take (length s) (drop p s) → r ≡ skip 0 cs s

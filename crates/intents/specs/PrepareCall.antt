@@ -12,10 +12,10 @@ use Rattle.state.specs.Maps.{Text, _⟼_, has-key, any, insert}
 use Rattle.state.specs.Records.{State, PreparedPublication}
 use Rattle.state.specs.Setters.{set-revision}
 use Rattle.fields.specs.Format.{enc, enc-text, all}
-use Rattle.fields.specs.Codes.{codes, codesOf}
+use Rattle.fields.specs.Codes.{codesOf}
 use Rattle.tables.specs.Seek.{seek, placed}
 use Rattle.tables.specs.declared.Place.{Place}
-use Rattle.image.specs.Shapes.{permit, intent, intent-parts}
+use Rattle.image.specs.Shapes.{intent, intent-parts}
 use Rattle.image.specs.Tables.{intent-row}
 use Rattle.image.specs.ImageParts.{from-intents}
 use Rattle.image.specs.declared.Table.{Table}
@@ -31,7 +31,7 @@ use Rattle.next.specs.Call.{Ready}
 use Rattle.next.specs.Head.{Small}
 use Rattle.next.specs.Kept.{after-seam, run-rest, run-to}
 use Rattle.next.specs.Shows.{Shown, Shows}
-use Rattle.reserved.specs.Located.{locatedIn, reserved-here}
+use Rattle.reserved.specs.Located.{reservedIn, reserved-here}
 use Rattle.edits.specs.Changes.{afterInsert, afterChange}
 use Rattle.edits.specs.ChangeLaws.{small-change, shows-change}
 use Rattle.publication.specs.Stays.{stays, tables-bounded, request-bounded}
@@ -62,12 +62,9 @@ module _ {x : List ℕ} {c : Contents} {q : List ℕ} {ctx : ContextAt} {f : Fau
   unfolding enc-text
   name-run = run-to q (enc-text name) intent-bytes 27 (length name + 1) asked (omega arith)
 
-  pub reserved-is : (b : Bool) → b ≡ (not (f .«ignore_delete_reservation») && any (locatedIn (codes permit) (c .reservations .count) (drop (c .reservations .at) x)) (keysOf q (a .intent .«object_keys»)))
+  pub reserved-is : (b : Bool) → b ≡ (not (f .«ignore_delete_reservation») && reservedIn x (c .reservations) (keysOf q (a .intent .«object_keys»)))
       → b ≡ (not (f .«ignore_delete_reservation») && any (λ key. has-key key (st .deletion-reservations)) (keysOf q (a .intent .«object_keys»)))
-  reserved-is b h =
-      h
-      ∙ (λ i. not (f .«ignore_delete_reservation») && any (locatedIn (codes permit) (ready .opened i .reservations .count) (drop (ready .opened i .reservations .at) x)) (keysOf q (a .intent .«object_keys»)))
-      ∙ ap (λ (t : Bool). not (f .«ignore_delete_reservation») && t) (reserved-here st x (ready .image-is) (ready .formed) (keysOf q (a .intent .«object_keys»)))
+  reserved-is b h = h ∙ ap (λ (t : Bool). not (f .«ignore_delete_reservation») && t) (reserved-here st x (ready .image-is) (ready .formed) c (ready .opened) (keysOf q (a .intent .«object_keys»)))
 
   module _ (id : List ℕ) (e : id ≡ name) (place : Place) (found : place ≡ placed x (seek (codesOf intent-code-list) (c .intents .count) id (drop (c .intents .at) x))) where
     pub prepare-found : place ≡ placed x (seek (codesOf intent-code-list) (c .intents .count) name (drop (c .intents .at) x))

@@ -3,18 +3,15 @@ ghost use mathlib.Core.Path.{_≡_};
 ghost use mathlib.Core.Bool.{not, _&&_};
 ghost use lib.ListN.{length, drop};
 ghost use Rattle.text.specs.Same.{sameOf};
-ghost use Rattle.state.specs.Maps.{any, is-empty};
+ghost use Rattle.state.specs.Maps.{is-empty};
 ghost use Rattle.state.specs.Records.{is-manifest, valid-reference};
 ghost use Rattle.parts.specs.Answer.{Gave};
 ghost use Rattle.parts.specs.Gather.{run};
 ghost use Rattle.fields.specs.Codes.{codes, codesOf, skip};
-ghost use Rattle.sets.specs.Sets.{set-of};
-ghost use Rattle.image.specs.Shapes.{permit};
 ghost use Rattle.entries.specs.Bytes.{applyBytes};
 ghost use Rattle.requests.specs.declared.PublicationAction.{PublicationAction};
 ghost use Rattle.requests.specs.Meaning.{textOf, referenceOf};
 ghost use Rattle.next.specs.Call.{Ready};
-ghost use Rattle.reserved.specs.Located.{locatedIn};
 ghost use Rattle.intents.specs.StoredIntent.{matchesIn, statusIn};
 use image::Contents;
 use image::Table;
@@ -32,23 +29,6 @@ const OWNER_AND_KEYS: [u8; 2] = [8, 10];
 const REFERENCE: [u8; 4] = [9, 128, 8, 64];
 
 const NAME: [u8; 1] = [64];
-
-// Whether a key of the set that stands at a place of the request has a reservation; a fault flag leaves the test out.
-fn is_reserved(ignore: bool, image: &[u8], reservations: Table, request: &[u8], keys: usize) -> bool
-    ensures { λ r. ⌜ r ≡ (not ignore && any (locatedIn (codes permit) (reservations .count) (drop (reservations .at) (now (image .entry)))) (set-of (drop keys (now (request .entry))))) ⌝ }
-{
-    if ignore {
-        return false;
-    }
-    reserved::any_located(
-        &image::PERMIT,
-        image,
-        reservations.at,
-        reservations.count,
-        request,
-        keys,
-    )
-}
 
 pub fn prepare(
     image: &[u8],
@@ -82,7 +62,7 @@ pub fn prepare(
     if p.start < p.end {
         return parts::refuse(3);
     }
-    if is_reserved(
+    if reserved::is_reserved(
         f.ignore_delete_reservation,
         image,
         reservations,

@@ -7,7 +7,7 @@ use mathlib.Core.Option.{Option, none, some}
 use mathlib.Core.Path.{_≡_, refl, sym, ap, _∙_, subst}
 use lib.ListN.{length, drop}
 use lib.Dec.{eqb, leb, ltb}
-use borrow.Author.Tests.{lt-ltb, le-ltb, le-leb, lt-leb}
+use borrow.Author.Tests.{lt-ltb, le-ltb}
 use Rattle.parts.specs.Gather.{gatherOf}
 use Rattle.state.specs.Maps.{Text, is-empty, is-some, has-key, insert}
 use Rattle.state.specs.MapLaws.{no-way}
@@ -25,11 +25,11 @@ use Rattle.image.specs.ImageParts.{from-intents}
 use Rattle.image.specs.declared.Contents.{Contents}
 use Rattle.image.specs.declared.MaybeNumber.{MaybeNumber}
 use Rattle.machine.specs.Actions.{AcquireLease, Transition, rejected, accepted, Rule, refuse-or, accept, decide, LeaseAcquired}
-use Rattle.machine.specs.Machine.{act, acquire-lease}
+use Rattle.machine.specs.Machine.{act, acquire-lease, any-reserved}
 use Rattle.machine.specs.Next.{up, oldest, acquired, new-lease}
 use Rattle.requests.specs.Request.{acquire}
 use Rattle.requests.specs.Outcome.{encodeOutcome}
-use Rattle.requests.specs.Meaning.{textOf, positionOf, contextOf, faultsOf, closureOf, leaseTokenOf, requestOf}
+use Rattle.requests.specs.Meaning.{textOf, keysOf, positionOf, contextOf, faultsOf, closureOf, leaseTokenOf, requestOf}
 use Rattle.requests.specs.declared.PublicationAction.{PublicationAction}
 use Rattle.requests.specs.declared.AcquireLease.{AcquireLease as AcquireLeaseAt}
 use Rattle.requests.specs.declared.AuthorityContext.{AuthorityContext as ContextAt}
@@ -45,6 +45,7 @@ use Rattle.next.specs.declared.PublicationOutcome.{PublicationOutcome}
 use Rattle.next.specs.Call.{Ready, ruled}
 use Rattle.floor.specs.Floors.{policyFor, readableFor, oldestAt}
 use Rattle.floor.specs.Oldest.{oldest-here}
+use Rattle.reserved.specs.Located.{reservedIn, reserved-here}
 use Rattle.leases.specs.Oldest.{oldest-insert}
 use Rattle.leases.specs.Leased.{withLeases, Recomputed, recomputed, small-leases, table-size-low, table-count-low}
 use Rattle.leases.specs.Placed.{Found, missing, held, inserted-count, inserted-size, placed-tables}
@@ -113,7 +114,8 @@ module _ (s : State) (id tenant : Text) (version : ℕ) (owner purpose : Text) (
       (refuse-or 19 backdated
       (refuse-or 20 (ltb (s .observed-commit-frontier) version)
       (refuse-or 24 (leb deadline (s .lease-clock-tick))
-      (accept (acquired s id token (g .omit-lease-root-epoch)) (LeaseAcquired token))))))
+      (refuse-or 10 (any-reserved s (k .object-keys))
+      (accept (acquired s id token (g .omit-lease-root-epoch)) (LeaseAcquired token)))))))
 
   rule-is : ruling ≡ decide (six (is-empty id) (is-empty tenant) (eqb version 0) (is-empty owner) (is-empty purpose) (not (valid-closure k)) valid-rest)
   unfolding act acquire-lease valid-rest
@@ -146,13 +148,18 @@ module _ (s : State) (id tenant : Text) (version : ℕ) (owner purpose : Text) (
           acquire-ahead l = passed ∙ simp (w, e, b, lt-ltb (s .observed-commit-frontier) version l)
 
           module _ (l : version ≤ s .observed-commit-frontier) where
-            acquire-past : deadline ≤ s .lease-clock-tick → ruling ≡ rejected 24
+            acquire-past : leb deadline (s .lease-clock-tick) ≡ true → ruling ≡ rejected 24
             unfolding decide valid-rest
-            acquire-past d = passed ∙ simp (w, e, b, le-ltb (s .observed-commit-frontier) version l, le-leb deadline (s .lease-clock-tick) d)
+            acquire-past d = passed ∙ simp (w, e, b, le-ltb (s .observed-commit-frontier) version l, d)
 
-            acquire-taken : s .lease-clock-tick < deadline → ruling ≡ accepted (acquired s id token (g .omit-lease-root-epoch)) (LeaseAcquired token)
-            unfolding decide valid-rest
-            acquire-taken d = passed ∙ simp (w, e, b, le-ltb (s .observed-commit-frontier) version l, lt-leb deadline (s .lease-clock-tick) d)
+            module _ (d : leb deadline (s .lease-clock-tick) ≡ false) where
+              acquire-reserved : any-reserved s (k .object-keys) ≡ true → ruling ≡ rejected 10
+              unfolding decide valid-rest
+              acquire-reserved n = passed ∙ simp (w, e, b, le-ltb (s .observed-commit-frontier) version l, d, n)
+
+              acquire-taken : any-reserved s (k .object-keys) ≡ false → ruling ≡ accepted (acquired s id token (g .omit-lease-root-epoch)) (LeaseAcquired token)
+              unfolding decide valid-rest
+              acquire-taken n = passed ∙ simp (w, e, b, le-ltb (s .observed-commit-frontier) version l, d, n)
 
 -- what the code has computed by the end
 module _ (s : State) (x q : List ℕ) (e : encodeImage s ≡ x) (w : Formed s) (a : ContextAt) (id : Text) (token : SnapshotLeaseToken) (omit : Bool) where
@@ -235,20 +242,30 @@ module _ {x : List ℕ} {c : Contents} {q : List ℕ} {a : ContextAt} {f : Fault
               (sym i ∙ valid) (sym window-is ∙ sym j ∙ set) unused (sym below-is ∙ sym t ∙ above) (omega (arith, h, frontier-is))
 
           module _ (committed : l .«snapshot_version» ≤ c .scalars .«observed_commit_frontier») where
-            clock-is : c .scalars .«lease_clock_tick» ≡ s .lease-clock-tick
-            clock-is = ap (λ (d : Contents). d .scalars .«lease_clock_tick») (ready .opened)
+            past-is : leb (l .«deadline_tick») (c .scalars .«lease_clock_tick») ≡ leb (l .«deadline_tick») (s .lease-clock-tick)
+            past-is = ap (λ (d : Contents). leb (l .«deadline_tick») (d .scalars .«lease_clock_tick»)) (ready .opened)
 
-            pub is-past : l .«deadline_tick» ≤ c .scalars .«lease_clock_tick» → ruled ready ≡ rejected 24
+            pub is-past : leb (l .«deadline_tick») (c .scalars .«lease_clock_tick») ≡ true → ruled ready ≡ rejected 24
             unfolding invalidOf
             is-past h =
                 acquire-past s id (textOf q (l .«tenant_id»)) (l .«snapshot_version») (textOf q (l .owner)) (textOf q (l .purpose)) (l .«deadline_tick») (closureOf q (l .closure)) (contextOf a) (faultsOf f)
-                (sym i ∙ valid) (sym window-is ∙ sym j ∙ set) unused (sym below-is ∙ sym t ∙ above) (omega (arith, committed, frontier-is)) (omega (arith, h, clock-is))
+                (sym i ∙ valid) (sym window-is ∙ sym j ∙ set) unused (sym below-is ∙ sym t ∙ above) (omega (arith, committed, frontier-is)) (sym past-is ∙ h)
 
-            pub is-taken : c .scalars .«lease_clock_tick» < l .«deadline_tick» → ruled ready ≡ accepted (acquired s id new (f .«omit_lease_root_epoch»)) (LeaseAcquired new)
-            unfolding invalidOf
-            is-taken h =
-                acquire-taken s id (textOf q (l .«tenant_id»)) (l .«snapshot_version») (textOf q (l .owner)) (textOf q (l .purpose)) (l .«deadline_tick») (closureOf q (l .closure)) (contextOf a) (faultsOf f)
-                (sym i ∙ valid) (sym window-is ∙ sym j ∙ set) unused (sym below-is ∙ sym t ∙ above) (omega (arith, committed, frontier-is)) (omega (arith, h, clock-is))
+            module _ (later : leb (l .«deadline_tick») (c .scalars .«lease_clock_tick») ≡ false) {named : Bool} (n : named ≡ reservedIn x (c .reservations) (keysOf q (l .closure .«object_keys»))) where
+              reserved-is : named ≡ any-reserved s (keysOf q (l .closure .«object_keys»))
+              reserved-is = n ∙ reserved-here s x (ready .image-is) (ready .formed) c (ready .opened) (keysOf q (l .closure .«object_keys»))
+
+              pub is-reserved : named ≡ true → ruled ready ≡ rejected 10
+              unfolding invalidOf
+              is-reserved h =
+                  acquire-reserved s id (textOf q (l .«tenant_id»)) (l .«snapshot_version») (textOf q (l .owner)) (textOf q (l .purpose)) (l .«deadline_tick») (closureOf q (l .closure)) (contextOf a) (faultsOf f)
+                  (sym i ∙ valid) (sym window-is ∙ sym j ∙ set) unused (sym below-is ∙ sym t ∙ above) (omega (arith, committed, frontier-is)) (sym past-is ∙ later) (sym reserved-is ∙ h)
+
+              pub is-taken : named ≡ false → ruled ready ≡ accepted (acquired s id new (f .«omit_lease_root_epoch»)) (LeaseAcquired new)
+              unfolding invalidOf
+              is-taken h =
+                  acquire-taken s id (textOf q (l .«tenant_id»)) (l .«snapshot_version») (textOf q (l .owner)) (textOf q (l .purpose)) (l .«deadline_tick») (closureOf q (l .closure)) (contextOf a) (faultsOf f)
+                  (sym i ∙ valid) (sym window-is ∙ sym j ∙ set) unused (sym below-is ∙ sym t ∙ above) (omega (arith, committed, frontier-is)) (sym past-is ∙ later) (sym reserved-is ∙ h)
 
   -- bounds
   pub size-low : c .leases .size ≤ 65535

@@ -1,7 +1,7 @@
 -- RenewLease: its answers, and the contents that show its next state.
 use Prim.Native.Nat.{ℕ, _+_, _-_, _≤_, _<_}
 use native.Mathlib.Omega.{arith}
-use mathlib.Core.Bool.{Bool, not, cond}
+use mathlib.Core.Bool.{Bool, true, false, not, cond}
 use mathlib.Core.List.{List, [], _∷_, _++_, append-nil}
 use mathlib.Core.Option.{none, some}
 use mathlib.Core.Path.{_≡_, sym, ap, _∙_, subst}
@@ -23,10 +23,10 @@ use Rattle.image.specs.Tables.{lease-row}
 use Rattle.image.specs.ImageParts.{from-intents, from-jobs}
 use Rattle.image.specs.declared.Contents.{Contents}
 use Rattle.machine.specs.Actions.{RenewLease, Transition, rejected, accepted, Rule, refuse-or, accept, decide, LeaseRenewed}
-use Rattle.machine.specs.Machine.{act, renew-lease}
+use Rattle.machine.specs.Machine.{act, renew-lease, any-reserved}
 use Rattle.machine.specs.Next.{up, renewed, renewed-lease}
 use Rattle.requests.specs.Outcome.{encodeOutcome}
-use Rattle.requests.specs.Meaning.{textOf, positionOf, contextOf, faultsOf, leaseTokenOf}
+use Rattle.requests.specs.Meaning.{textOf, keysOf, positionOf, contextOf, faultsOf, leaseTokenOf}
 use Rattle.requests.specs.Positions.{behind, leaseTokenIn}
 use Rattle.requests.specs.Peek.{peek, peek-dec}
 use Rattle.requests.specs.PositionLaws.{Written, first, second, behind-written, behind-number, behind-text, text-place, text-end, closure-end, closure-within}
@@ -42,6 +42,7 @@ use Rattle.next.specs.Kept.{small-here}
 use Rattle.next.specs.Outcome.{outcomeBytes, Fits}
 use Rattle.next.specs.declared.PublicationOutcome.{PublicationOutcome}
 use Rattle.next.specs.Call.{Ready, ruled}
+use Rattle.reserved.specs.Located.{reservedIn, reserved-here}
 use Rattle.leases.specs.Leased.{withLeases, leasesSet, leases-shown, small-leases}
 use Rattle.leases.specs.Placed.{found-then, Found, missing, held, row-long, row-there, row-held, row-within, replaced-count, replaced-size, placed-tables}
 use Rattle.leases.specs.Runs.{a as before-epoch-of, b as names-of, d as closure-of, a-length, b-length, renewed-length, renewed-gathers}
@@ -55,7 +56,8 @@ module _ (s : State) (id : Text) (epoch deadline : ℕ) (x : AuthorityContext) (
       refuse-or 23 (not (eqb (existing .lease-epoch) epoch))
       (refuse-or 24 (leb deadline (s .lease-clock-tick))
       (refuse-or 24 (leb deadline (existing .deadline-tick))
-      (accept (renewed s id (renewed-lease s existing deadline x) (g .omit-lease-root-epoch)) (LeaseRenewed (renewed-lease s existing deadline x)))))
+      (refuse-or 10 (any-reserved s (existing .closure .object-keys))
+      (accept (renewed s id (renewed-lease s existing deadline x) (g .omit-lease-root-epoch)) (LeaseRenewed (renewed-lease s existing deadline x))))))
 
   pub renew-missing : lookup id (s .leases) ≡ none → ruling ≡ rejected 22
   unfolding act renew-lease decide
@@ -76,10 +78,15 @@ module _ (s : State) (id : Text) (epoch deadline : ℕ) (x : AuthorityContext) (
         unfolding act renew-lease decide at-found
         renew-sooner l = found-then 22 (lookup id (s .leases)) at-found v h ∙ simp (eq-eqb (v .lease-epoch) epoch k, lt-leb deadline (s .lease-clock-tick) d, le-leb deadline (v .deadline-tick) l)
 
-        pub renew-taken : v .deadline-tick < deadline
-            → ruling ≡ accepted (renewed s id (renewed-lease s v deadline x) (g .omit-lease-root-epoch)) (LeaseRenewed (renewed-lease s v deadline x))
-        unfolding act renew-lease decide at-found
-        renew-taken l = found-then 22 (lookup id (s .leases)) at-found v h ∙ simp (eq-eqb (v .lease-epoch) epoch k, lt-leb deadline (s .lease-clock-tick) d, lt-leb deadline (v .deadline-tick) l)
+        module _ (l : v .deadline-tick < deadline) where
+          pub renew-reserved : any-reserved s (v .closure .object-keys) ≡ true → ruling ≡ rejected 10
+          unfolding act renew-lease decide at-found
+          renew-reserved n = found-then 22 (lookup id (s .leases)) at-found v h ∙ simp (eq-eqb (v .lease-epoch) epoch k, lt-leb deadline (s .lease-clock-tick) d, lt-leb deadline (v .deadline-tick) l, n)
+
+          pub renew-taken : any-reserved s (v .closure .object-keys) ≡ false
+              → ruling ≡ accepted (renewed s id (renewed-lease s v deadline x) (g .omit-lease-root-epoch)) (LeaseRenewed (renewed-lease s v deadline x))
+          unfolding act renew-lease decide at-found
+          renew-taken n = found-then 22 (lookup id (s .leases)) at-found v h ∙ simp (eq-eqb (v .lease-epoch) epoch k, lt-leb deadline (s .lease-clock-tick) d, lt-leb deadline (v .deadline-tick) l, n)
 
 -- what the code has computed by the end
 module _ (s : State) (x q : List ℕ) (e : encodeImage s ≡ x) (a : ContextAt) (id : Text) (token : SnapshotLeaseToken) (omit : Bool) where
@@ -153,11 +160,22 @@ module _ {x : List ℕ} {c : Contents} {q : List ℕ} {a : ContextAt} {f : Fault
                 renew-sooner s id (l .«expected_lease_epoch») (l .«new_deadline_tick») (contextOf a) (faultsOf f) (stands .0) (stands .2) (sym epoch-is ∙ same)
                 (omega (arith, later, clock-is)) (omega (arith, h, deadline-is))
 
-            pub longer : now .«deadline_tick» < l .«new_deadline_tick» → ruled ready ≡ accepted (renewed s id token (f .«omit_lease_root_epoch»)) (LeaseRenewed token)
-            unfolding token
-            longer h =
-                renew-taken s id (l .«expected_lease_epoch») (l .«new_deadline_tick») (contextOf a) (faultsOf f) (stands .0) (stands .2) (sym epoch-is ∙ same)
-                (omega (arith, later, clock-is)) (omega (arith, h, deadline-is))
+            module _ (longer : now .«deadline_tick» < l .«new_deadline_tick») {named : Bool} (n : named ≡ reservedIn x (c .reservations) (keysOf row (now .closure .«object_keys»))) where
+              reserved-is : named ≡ any-reserved s (stands .0 .closure .object-keys)
+              reserved-is =
+                  n ∙ reserved-here s x (ready .image-is) (ready .formed) c (ready .opened) (keysOf row (now .closure .«object_keys»))
+                  ∙ ap (λ (t : SnapshotLeaseToken). any-reserved s (t .closure .object-keys)) means
+
+              pub is-reserved : named ≡ true → ruled ready ≡ rejected 10
+              is-reserved h =
+                  renew-reserved s id (l .«expected_lease_epoch») (l .«new_deadline_tick») (contextOf a) (faultsOf f) (stands .0) (stands .2) (sym epoch-is ∙ same)
+                  (omega (arith, later, clock-is)) (omega (arith, longer, deadline-is)) (sym reserved-is ∙ h)
+
+              pub is-renewed : named ≡ false → ruled ready ≡ accepted (renewed s id token (f .«omit_lease_root_epoch»)) (LeaseRenewed token)
+              unfolding token
+              is-renewed h =
+                  renew-taken s id (l .«expected_lease_epoch») (l .«new_deadline_tick») (contextOf a) (faultsOf f) (stands .0) (stands .2) (sym epoch-is ∙ same)
+                  (omega (arith, later, clock-is)) (omega (arith, longer, deadline-is)) (sym reserved-is ∙ h)
 
 -- the acceptance that is left to be written
 pub record Renewing (x : List ℕ) (c : Contents) (q : List ℕ) (a : ContextAt) (f : FaultsAt) (l : RenewLeaseAt) (place : Place) (row : List ℕ) (now : LeaseTokenAt) : Type 0 where

@@ -288,8 +288,16 @@ pub fn acquire_lease(
     if n.observed_commit_frontier < a.snapshot_version {
         return parts::refuse(20);
     }
-    if a.deadline_tick <= n.lease_clock_tick {
+    let reservations = c.reservations;
+    let closure = a.closure;
+    let keys = closure.object_keys;
+    let late = a.deadline_tick <= n.lease_clock_tick;
+    let named = reserved::is_reserved(false, image, reservations, request, keys.at);
+    if late {
         return parts::refuse(24);
+    }
+    if named {
+        return parts::refuse(10);
     }
     put_lease(image, c, request, x, f, a, p, next, outcome)
 }
@@ -408,11 +416,18 @@ pub fn renew_lease(
     if held.lease_epoch != a.expected_lease_epoch {
         return parts::refuse(23);
     }
+    let reservations = c.reservations;
+    let closure = held.closure;
+    let keys = closure.object_keys;
+    let named = reserved::is_reserved(false, image, reservations, row, keys.at);
     if a.new_deadline_tick <= n.lease_clock_tick {
         return parts::refuse(24);
     }
     if a.new_deadline_tick <= held.deadline_tick {
         return parts::refuse(24);
+    }
+    if named {
+        return parts::refuse(10);
     }
     put_renewed(image, c, request, x, f, a, p, row, held, next, outcome)
 }

@@ -6,8 +6,8 @@ use mathlib.Core.List.{List, [], _∷_, List·Memᴰ}
 use mathlib.Core.Option.{Option, some}
 use mathlib.Core.Bool.{false}
 use lib.ListN.{length, take}
-use Rattle.state.specs.Maps.{Text, lookup}
-use Rattle.state.specs.Records.{AuthorityContext, no-faults, State, SnapshotLeaseToken, DeletePermit, names}
+use Rattle.state.specs.Maps.{Text, Map, lookup}
+use Rattle.state.specs.Records.{AuthorityContext, no-faults, State, SnapshotClosure, SnapshotLeaseToken, DeletePermit, names}
 use Rattle.machine.specs.Actions.{Action, Transition, rejected, accepted}
 use Rattle.machine.specs.Machine.{apply, validate}
 use Rattle.machine.specs.Ledger.{Event, refused, took, issued, Lease, Ledger, empty, after, Last}
@@ -64,6 +64,10 @@ pub record Ordered (a : Five) : Type 0 where
   pub readable≤policy : a .readable ≤ a .policy
   pub policy≤frontier : a .policy ≤ a .frontier
 
+-- A closure names no reserved key: none under which a permit is stored.
+abbrev pub Unreserved : Map DeletePermit → SnapshotClosure → Type 0
+Unreserved reservations c = (key : Text) (p : DeletePermit) → lookup key reservations ≡ some p → names c key ≡ false
+
 -- THE CLAIMS, of two moments of one list of calls. At the first the state is s₁ and the ledger L₁; at the second, not before
 -- it, the image is x₂, the state s₂ and the ledger L₂. They are proved for every two moments, so what is said of the second
 -- alone holds at each.
@@ -80,6 +84,8 @@ pub record Claims (M : Machine) (s₁ : State) (L₁ : Ledger) (x₂ : M .Image)
   -- before the lease began; this is stronger, since no permit at all is issued: a stored one is never issued again.
   pub no-permit : (id : Text) (l : Lease) → lookup id (L₂ .live) ≡ some l
       → (r : M .Request) (p : DeletePermit) → issued (M .told x₂ r) ≡ some p → names (l .closure) (p .key) ≡ false
+  -- No live lease names a reserved key.
+  pub unreserved : (id : Text) (l : Lease) → lookup id (L₂ .live) ≡ some l → Unreserved (s₂ .deletion-reservations) (l .closure)
   -- A shown token validates exactly when it spells the last token given for a lease that is live.
   pub validates : (t : M .Token) → (M .check x₂ t ≡ 0) ↔ ((u : SnapshotLeaseToken) × (M .spells t ≡ some u) × Last u L₂)
   -- A token of a lease that had ended by the first moment validates at no later one, though its id be live anew.

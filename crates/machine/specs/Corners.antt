@@ -1,5 +1,4 @@
--- The corners that the scope paper names, each as a theorem of the definitions.
--- (That AcquireLease does not look at reservations is a row of E9.)
+-- The corners that the scope paper and the requests name, each as a theorem of the definitions.
 -- Assumes nothing.
 use Prim.Native.Nat.{ℕ, _-_, _^_}
 use mathlib.Core.Path.{_≡_, refl}
@@ -15,6 +14,8 @@ use Rattle.machine.specs.Actions.{Action, Outcome, LeaseAcquired, LeaseR
 use Rattle.machine.specs.Next.{up, expired, moved}
 use Rattle.machine.specs.Machine.{acquire-lease, renew-lease, release-lease, advance-lease-clock, intent-matches, publish, reserve-delete, retire-delete, stamp, rule, apply}
 use Rattle.machine.specs.ApplyLaws.{Accepts, stamped}
+use Rattle.machine.specs.Claims.{Unreserved}
+use Rattle.machine.specs.Invariant.{none-reserved}
 
 -- Epochs stop at 2^64 - 1.
 pub epochs-stop : up (2 ^ 64 - 1) ≡ 2 ^ 64 - 1
@@ -45,21 +46,32 @@ module _ (s : State) (c : AuthorityContext) (f : PublicationAuthorityFaults) whe
   -- Renewal does not recompute the floor.
   pub renew-same-floor : (id : Text) (epoch deadline : ℕ) → Accepts (λ s′ o. (s′ .policy-floor ≡ s .policy-floor) × (s′ .minimum-readable-version ≡ s .minimum-readable-version)) (renew-lease s id epoch deadline c f)
   unfolding renew-lease
-  renew-same-floor id epoch deadline = λ _ _ _ _ _. (refl, refl)
+  renew-same-floor id epoch deadline = λ _ _ _ _ _ _. (refl, refl)
 
   -- An accepted AcquireLease gives the token of the request's id, version and closure, and the next state has it under the id. A
   -- renewal gives the one of the lease that it finds.
   pub acquire-gives : (id tenant : Text) (v : ℕ) (owner purpose : Text) (d : ℕ) (q : SnapshotClosure)
       → Accepts (λ s′ o. (t : SnapshotLeaseToken) × (o ≡ LeaseAcquired t) × (lookup id (s′ .leases) ≡ some t) × Given s id v q t s′) (acquire-lease s id tenant v owner purpose d q c f)
   unfolding acquire-lease
-  acquire-gives id tenant v owner purpose d q = λ _ _ _ _ _ _ _ _ _ _ _.
+  acquire-gives id tenant v owner purpose d q = λ _ _ _ _ _ _ _ _ _ _ _ _.
       (_, refl, lookup-insert-same id _ (s .leases), record { its-id = refl; its-version = refl; its-closure = refl; its-epoch = refl; next-epoch = refl })
 
   pub renew-gives : (id : Text) (epoch deadline : ℕ)
       → Accepts (λ s′ o. (l t : SnapshotLeaseToken) × (lookup id (s .leases) ≡ some l) × (o ≡ LeaseRenewed t) × (lookup id (s′ .leases) ≡ some t) × Given s (l .lease-id) (l .snapshot-version) (l .closure) t s′) (renew-lease s id epoch deadline c f)
   unfolding renew-lease
-  renew-gives id epoch deadline = λ l at _ _ _.
+  renew-gives id epoch deadline = λ l at _ _ _ _.
       (l, _, at, refl, lookup-insert-same id _ (s .leases), record { its-id = refl; its-version = refl; its-closure = refl; its-epoch = refl; next-epoch = refl })
+
+  -- Under any fault flags: an accepted AcquireLease names no reserved key, and neither does the lease that a renewal finds.
+  pub acquire-unreserved : (id tenant : Text) (v : ℕ) (owner purpose : Text) (d : ℕ) (q : SnapshotClosure)
+      → Accepts (λ s′ o. Unreserved (s .deletion-reservations) q) (acquire-lease s id tenant v owner purpose d q c f)
+  unfolding acquire-lease
+  acquire-unreserved id tenant v owner purpose d q = λ _ _ _ _ _ _ _ _ _ _ _ free. none-reserved s q free
+
+  pub renew-unreserved : (id : Text) (epoch deadline : ℕ)
+      → Accepts (λ s′ o. (l : SnapshotLeaseToken) × (lookup id (s .leases) ≡ some l) × Unreserved (s .deletion-reservations) (l .closure)) (renew-lease s id epoch deadline c f)
+  unfolding renew-lease
+  renew-unreserved id epoch deadline = λ l at _ _ _ free. (l, at, none-reserved s (l .closure) free)
 
   -- A lease that ends moves the epoch: by its release, or by a clock that lists it. A clock that lists none leaves it.
   pub release-raises : (id : Text) (epoch : ℕ) → Accepts (λ s′ o. s′ .lease-epoch ≡ up (s .lease-epoch)) (release-lease s id epoch f)

@@ -1,5 +1,5 @@
 -- The starred edges E2 to E10 of the scope paper, as rows of one table, by one theorem. (E1 is about the image.) Two rows more tell the
--- order of ids by their bytes from one by their length, and two the order in which ended leases are listed.
+-- order of ids by their bytes from one by their length, two the order in which ended leases are listed, and four what reserved keys refuse.
 -- Faults off, generation 1; window 3 and frontier 10 stand before every row.
 use Prim.Native.Nat.{ℕ}
 use mathlib.Core.Path.{_≡_, refl}
@@ -9,9 +9,10 @@ use mathlib.Core.Bool.{Bool, true, false, _&&_}
 use lib.Dec.{eqb}
 use lib.ListN.{replicate, length}
 use Rattle.state.specs.Maps.{Text, Map, _⟼_, key-of, before, same-texts, all, insert, is-empty}
-use Rattle.state.specs.Records.{AuthorityContext, no-faults, Manifest, ObjectReference, SnapshotClosure, SnapshotLeaseToken, State, default}
-use Rattle.state.specs.Setters.{set-leases, set-lease-clock-tick}
-use Rattle.machine.specs.Actions.{Action, ObserveCommittedFrontier, SetRetentionWindow, ObserveRangeMapEpoch, ConfigureCollectionRoot, AcquireLease, ReleaseLease, AdvanceLeaseClock, PrepareCollection, Prepare, Publish, Pin, ReserveDelete, Transition, rejected, accepted}
+use Rattle.state.specs.Records.{AuthorityContext, no-faults, Manifest, ObjectIdentity, ObjectReference, SnapshotClosure, SnapshotLeaseToken, State, default}
+use Rattle.state.specs.Setters.{set-deletion-reservations, set-leases, set-lease-clock-tick}
+use Rattle.machine.specs.Actions.{Action, ObserveCommittedFrontier, SetRetentionWindow, ObserveRangeMapEpoch, ConfigureCollectionRoot, AcquireLease, RenewLease, ReleaseLease, AdvanceLeaseClock, PrepareCollection, Prepare, Publish, Pin, ReserveDelete, Transition, rejected, accepted}
+use Rattle.machine.specs.Next.{_▸_, new-permit}
 use Rattle.machine.specs.Machine.{apply, validate}
 use Rattle.machine.specs.Ledger.{gives}
 use Rattle.machine.specs.Computes.{machine-computes}
@@ -61,6 +62,7 @@ pub data Row : Type 0 where
   ends : (before : List Action) (call : Action) (lease-ids : List Text) → Row
   collects : (before : List Action) (collected readable jobs : ℕ) → Row
   -- of the state with this change, as no call makes it
+  answers-loaded : (load : State → State) (call : Action) (number : ℕ) → Row
   ends-loaded : (load : State → State) (call : Action) (lease-ids : List Text) → Row
   validates : (load : State → State) (token : SnapshotLeaseToken) (number : ℕ) → Row
   -- the ids of the pins, as they stand
@@ -74,6 +76,7 @@ holds (answers-at c a n) = test (λ s. eqb (status (apply s a c no-faults)) n) s
 holds (floors before p r) = test (λ s. eqb (s .policy-floor) p && eqb (s .minimum-readable-version) r) (run start before)
 holds (ends before a l) = test (λ s. ends-all l (answer s a)) (run start before)
 holds (collects before c r j) = test (λ s. eqb (s .physically-collected-through) c && eqb (s .minimum-readable-version) r && eqb (length (s .collection-jobs)) j) (run start before)
+holds (answers-loaded load a n) = test (λ s. eqb (status (answer (load s) a)) n) start
 holds (ends-loaded load a l) = test (λ s. ends-all l (answer (load s) a)) start
 holds (validates load t n) = test (λ s. eqb (validate (load s) t) n) start
 holds (pins-are before ids) = test (λ s. same-texts (keys (s .pins)) ids) (run start before)
@@ -102,14 +105,27 @@ abbrev pub lease : (version deadline : ℕ) → Action
 lease version deadline = lease-under id version deadline
 
 -- what such a lease is given
+abbrev token-of : (closure : SnapshotClosure) (lease-id : Text) (version epoch deadline : ℕ) → SnapshotLeaseToken
+token-of closure lease-id version epoch deadline = record { lease-id = lease-id; tenant-id = 116 ∷ []; snapshot-version = version; lease-epoch = epoch; owner = 111 ∷ []; purpose = 112 ∷ []; deadline-tick = deadline; closure = closure; owner-generation = 1; authority-position = record { term = 1; index = 1 } }
+
 abbrev token-under : (lease-id : Text) (version epoch deadline : ℕ) → SnapshotLeaseToken
-token-under lease-id version epoch deadline = record { lease-id = lease-id; tenant-id = 116 ∷ []; snapshot-version = version; lease-epoch = epoch; owner = 111 ∷ []; purpose = 112 ∷ []; deadline-tick = deadline; closure = closure; owner-generation = 1; authority-position = record { term = 1; index = 1 } }
+token-under = token-of closure
 
 abbrev pub token : (version epoch deadline : ℕ) → SnapshotLeaseToken
 token version epoch deadline = token-under id version epoch deadline
 
+abbrev identity : ObjectIdentity
+identity = record { revision = record { e-tag = none; version = none }; length = 1; sha256 = hash }
+
 abbrev reserve : (mark-epoch : ℕ) → Action
-reserve mark-epoch = ReserveDelete (112 ∷ []) mark-epoch key (record { revision = record { e-tag = none; version = none }; length = 1; sha256 = hash })
+reserve mark-epoch = ReserveDelete (112 ∷ []) mark-epoch key identity
+
+-- with a reserved key, and a lease that names `key` and not its manifest's
+abbrev reserving : Text → State → State
+reserving k s =
+    s
+    ▸ set-leases (insert id (token-of (record { manifest = manifest; object-keys = key ∷ [] }) id 7 1 9) (s .leases))
+    ▸ set-deletion-reservations (insert k (new-permit k identity (112 ∷ []) (context 1 1 1)) (s .deletion-reservations))
 
 -- with a lease whose deadline is 5, and the clock at 5
 abbrev at-deadline : State → State
@@ -170,9 +186,15 @@ table =
     ∷ collects collecting 0 7 0
     ∷ answers collecting (collect 7) 0
     ∷ answers collecting (collect 8) 33
-    -- E9: a key that a lease names, mark epoch current; a reserved key in a new lease
+    -- E9: a key that a lease names, mark epoch current; a reserved key in a new lease; a deadline that is past comes first
     ∷ answers (lease 7 9 ∷ []) (reserve 1) 11
-    ∷ answers (reserve 0 ∷ []) (lease 7 9) 0
+    ∷ answers (reserve 0 ∷ []) (lease 7 9) 10
+    ∷ answers (reserve 0 ∷ []) (lease 7 0) 24
+    -- a loaded lease renewed: it names a reserved key; a deadline that is no later comes first; the reserved key is its manifest's, which
+    -- it does not name
+    ∷ answers-loaded (reserving key) (RenewLease id 1 10) 10
+    ∷ answers-loaded (reserving key) (RenewLease id 1 9) 24
+    ∷ answers-loaded (reserving (109 ∷ [])) (RenewLease id 1 10) 0
     -- E10: index 0, generation 0, term 0
     ∷ answers-at (context 1 1 0) (ObserveCommittedFrontier 10) 2
     ∷ answers-at (context 0 1 1) (ObserveCommittedFrontier 10) 2

@@ -147,12 +147,12 @@ module _ (T : Texts) where
     act-formed (SetRetentionWindow e x) c h k = λ _. (floored (keep-retention-policy-epoch _ (up-fits (s .retention-policy-epoch)) (keep-retention-window (some x) (h .1) w)), tt)
     act-formed (ObserveRangeMapEpoch e) c h k = λ _ _. (keep-range-map-epoch e h w, tt)
     act-formed (ConfigureCollectionRoot x r) c h k = λ _ _ _ _. (bumped (keep-collection-root (some r) (h .1) w), tt)
-    act-formed (AcquireLease id t v o p d q) c h k = λ _ _ _ _ _ _ _ _ _ _ _.
+    act-formed (AcquireLease id t v o p d q) c h k = λ _ _ _ _ _ _ _ _ _ _ _ _.
         let r = h .1 .1 in
         let x = r .1 .1 in
         both (h .0, (h .1 .0, (r .0, (up-fits (s .lease-epoch), (r .1 .0, (x .0, (x .1 .0, (x .1 .1, k)))))))) (λ new.
         floored (bumped-unless (keep-leases _ (table-insert (LeaseAt T) id _ (s .leases) (refl, new) (w .leases)) (keep-lease-epoch _ (up-fits (s .lease-epoch)) w)) (f .omit-lease-root-epoch)))
-    act-formed (RenewLease id e d) c h k = λ old at _ _ _.
+    act-formed (RenewLease id e d) c h k = λ old at _ _ _ _.
         let o = each-lookup (LeaseAt T) id old (s .leases) (w .leases .each) at in
         let r = o .1 .1 in
         let x = r .1 .1 .1 in

@@ -167,6 +167,10 @@ module _ (M : Machine) (f : Follows M) where
         let z = f .each-call x₂ s₂ h c in
         let k : Permits L₂ (issued (M .told x₂ c)) = step-keeps m L₂ s₂ few i (M .told x₂ c) (z .0) (z .1) .1 in
         subst (Permits L₂) e k id l q;
+    unreserved = λ id l q.
+        let h = linked-live id l (i .linked) q in
+        let free = i .good .lease-ok id (h .token) (h .stored) .unreserved in
+        λ key p at. rw (← h .ok .its-closure) (free key p at);
     validates = λ t.
         let e = f .validation x₂ s₂ h t in
         (λ q. let z = e .0 q in (z .0, z .1, validates-last s₂ i (z .0) (z .2)), λ w. e .1 (w .0, w .1, last-validates s₂ i (w .0) (w .2)));

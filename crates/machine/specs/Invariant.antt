@@ -1,24 +1,24 @@
 -- What every moment of a history keeps, and that each call keeps it.
 -- Assumes nothing.
 use Prim.Native.Nat.{ℕ, suc, _≤_, _<_, _-_, min, max}
-use mathlib.Core.Path.{_≡_, refl, _∙_}
+use mathlib.Core.Path.{_≡_, refl, ap, _∙_}
 use mathlib.Core.List.{List, [], _∷_}
 use mathlib.Core.Option.{Option, none, some}
 use mathlib.Core.Bool.{Bool, false, cond}
 use native.Mathlib.Omega.{arith}
 use borrow.Author.Tests.{ltb-false, leb-false, eqb-true, not-false}
-use Rattle.state.specs.Maps.{Text, Map, _⟼_, same, lookup, remove-all}
-use Rattle.state.specs.MapLaws.{no-way, option-clash, is-none, by-test, lookup-remove-all, found-insert, found-remove, any-value-false, keys-where-has}
+use Rattle.state.specs.Maps.{Text, Map, _⟼_, same, is-some, lookup, has-key, remove-all}
+use Rattle.state.specs.MapLaws.{no-way, option-clash, is-none, by-test, lookup-remove-all, found-insert, found-remove, any-value-false, none-contained, keys-where-has}
 use Rattle.state.specs.SortLaws.{rearranged-any}
 use Rattle.state.specs.Records.{AuthorityContext, no-faults, State, SnapshotClosure, SnapshotLeaseToken, CollectionJobToken, ObjectReference, PublicationIntent, CollectionReceipt, DeletePermit, ObjectIdentity, names}
-use Rattle.state.specs.Setters.{set-lease-clock-tick, set-lease-epoch, set-leases}
+use Rattle.state.specs.Setters.{set-deletion-reservations, set-lease-clock-tick, set-lease-epoch, set-leases}
 use Rattle.machine.specs.Actions.{Action, ObserveCommittedFrontier, SetRetentionWindow, ObserveRangeMapEpoch, ConfigureCollectionRoot, AcquireLease, RenewLease, ReleaseLease, AdvanceLeaseClock, PrepareCollection, PublishCollection, AbandonCollection, Prepare, Publish, Pin, Unpin, ReserveDelete, RetireDelete, Outcome}
 use Rattle.machine.specs.Next.{top, up, oldest, policy-for, readable-for, ends-by, moved, expired}
-use Rattle.machine.specs.Machine.{observe-committed-frontier, set-retention-window, observe-range-map-epoch, configure-collection-root, acquire-lease, renew-lease, release-lease, advance-lease-clock, prepare-collection, publish-collection, abandon-collection, prepare, publish, pin, unpin, reserve-delete, retire-delete, act}
+use Rattle.machine.specs.Machine.{observe-committed-frontier, set-retention-window, observe-range-map-epoch, configure-collection-root, acquire-lease, renew-lease, release-lease, advance-lease-clock, prepare-collection, publish-collection, abandon-collection, prepare, publish, pin, unpin, reserve-delete, retire-delete, act, any-reserved}
 use Rattle.machine.specs.ApplyLaws.{Accepts}
 use Rattle.machine.specs.ExpiredLaws.{expired-rearranged}
 use Rattle.machine.specs.Ledger.{took, gives, Lease, Ledger, note}
-use Rattle.machine.specs.Claims.{Five, five-of, Rises, Ordered}
+use Rattle.machine.specs.Claims.{Five, five-of, Rises, Ordered, Unreserved}
 use Rattle.machine.specs.LedgerLaws.{Linked, raise, linked-live, begin-linked, renew-linked, end-linked, end-all-linked}
 
 -- THE CORE of a state: what the claims rest on. Most actions leave it as it is, by computation.
@@ -26,18 +26,20 @@ pub record Core : Type 0 where
   pub format : ℕ
   pub five : Five
   pub epoch : ℕ
+  pub reservations : Map DeletePermit
   pub leases : Map SnapshotLeaseToken
   pub jobs : Map CollectionJobToken
 
 abbrev pub core : State → Core
-core s = record { format = s .format-version; five = five-of s; epoch = s .lease-epoch; leases = s .leases; jobs = s .collection-jobs }
+core s = record { format = s .format-version; five = five-of s; epoch = s .lease-epoch; reservations = s .deletion-reservations; leases = s .leases; jobs = s .collection-jobs }
 
--- each over just the numbers that it uses, so that it still holds, by computation, where others change
-pub record LeaseOk (readable frontier clock : ℕ) (id : Text) (t : SnapshotLeaseToken) : Type 0 where
+-- each over just what it uses, so that it still holds, by computation, where others change
+pub record LeaseOk (readable frontier clock : ℕ) (reservations : Map DeletePermit) (id : Text) (t : SnapshotLeaseToken) : Type 0 where
   pub own-id : t .lease-id ≡ id
   pub above : readable ≤ t .snapshot-version
   pub below : t .snapshot-version ≤ frontier
   pub in-time : clock < t .deadline-tick
+  pub unreserved : Unreserved reservations (t .closure)
 
 pub record JobOk (readable : ℕ) (id : Text) (j : CollectionJobToken) : Type 0 where
   pub forward : j .expected-collected-through < j .frozen-floor
@@ -46,8 +48,12 @@ pub record JobOk (readable : ℕ) (id : Text) (j : CollectionJobToken) : Type 0 
 pub record Good (s : Core) : Type 0 where
   pub format-1 : s .format ≡ 1
   pub ordered : Ordered (s .five)
-  pub lease-ok : (id : Text) (t : SnapshotLeaseToken) → lookup id (s .leases) ≡ some t → LeaseOk (s .five .readable) (s .five .frontier) (s .five .clock) id t
+  pub lease-ok : (id : Text) (t : SnapshotLeaseToken) → lookup id (s .leases) ≡ some t → LeaseOk (s .five .readable) (s .five .frontier) (s .five .clock) (s .reservations) id t
   pub job-ok : (id : Text) (j : CollectionJobToken) → lookup id (s .jobs) ≡ some j → JobOk (s .five .readable) id j
+
+-- RESERVED KEYS: what the test of a lease's keys tells
+pub none-reserved : (s : State) (c : SnapshotClosure) → any-reserved s (c .object-keys) ≡ false → Unreserved (s .deletion-reservations) c
+none-reserved s c free key p at = none-contained (λ k. has-key k (s .deletion-reservations)) (c .object-keys) key free (ap is-some at)
 
 -- THE FLOOR
 pub oldest-floor : (n : ℕ) (m : Map SnapshotLeaseToken) → oldest n m ≤ n
@@ -100,7 +106,7 @@ floor (some w) frontier policy readable leases h k =
 abbrev refloor : Option ℕ → Core → Core
 refloor o s =
     let policy = policy-for o (s .five .frontier) (s .five .policy) in
-    record { format = s .format; five = record { frontier = s .five .frontier; policy = policy; readable = readable-for o policy (s .leases) (s .five .readable); collected = s .five .collected; clock = s .five .clock }; epoch = s .epoch; leases = s .leases; jobs = s .jobs }
+    record { format = s .format; five = record { frontier = s .five .frontier; policy = policy; readable = readable-for o policy (s .leases) (s .five .readable); collected = s .five .collected; clock = s .five .clock }; epoch = s .epoch; reservations = s .reservations; leases = s .leases; jobs = s .jobs }
 
 floored : {n : ℕ} {s₀ : Core} {L : Ledger} (o : Option ℕ) (s : Core) → Kept n s₀ s L → Kept n s₀ (refloor o s) L
 floored o s k =
@@ -113,7 +119,7 @@ floored o s k =
         good = record {
           format-1 = g .format-1;
           ordered = omega arith;
-          lease-ok = λ id t h. let l = g .lease-ok id t h in record { own-id = l .own-id; above = f .readable-lease id t h (l .above); below = l .below; in-time = l .in-time };
+          lease-ok = λ id t h. let l = g .lease-ok id t h in record { own-id = l .own-id; above = f .readable-lease id t h (l .above); below = l .below; in-time = l .in-time; unreserved = l .unreserved };
           job-ok = λ id j h. let j-ok = g .job-ok id j h in record { forward = j-ok .forward; read = omega arith };
         };
         linked = k .inv .linked;
@@ -154,7 +160,7 @@ module _ {n : ℕ} (few : n < top) {L : Ledger} (s : State) (i : Inv n (core s) 
       let g = i .good in let ord = g .ordered in let le : s .observed-commit-frontier ≤ f = ltb-false _ _ up in
       record {
         inv = record {
-          good = record { format-1 = g .format-1; ordered = omega arith; lease-ok = λ id t h. let l = g .lease-ok id t h in record { own-id = l .own-id; above = l .above; below = omega arith; in-time = l .in-time }; job-ok = g .job-ok };
+          good = record { format-1 = g .format-1; ordered = omega arith; lease-ok = λ id t h. let l = g .lease-ok id t h in record { own-id = l .own-id; above = l .above; below = omega arith; in-time = l .in-time; unreserved = l .unreserved }; job-ok = g .job-ok };
           linked = i .linked;
           count = omega arith;
         };
@@ -175,7 +181,7 @@ module _ {n : ℕ} (few : n < top) {L : Ledger} (s : State) (i : Inv n (core s) 
 
   acquire-keeps : (id tenant : Text) (v : ℕ) (owner purpose : Text) (d : ℕ) (c : SnapshotClosure) (x : AuthorityContext) → Accepts (Keeps (AcquireLease id tenant v owner purpose d c)) (acquire-lease s id tenant v owner purpose d c x no-faults)
   unfolding acquire-lease
-  acquire-keeps id tenant v owner purpose d c x = λ _ _ _ _ _ _ _ new low high late. plain floored _ _ (
+  acquire-keeps id tenant v owner purpose d c x = λ _ _ _ _ _ _ _ new low high late free. plain floored _ _ (
       let g = i .good in
       let next = up-next (s .lease-epoch) n (i .count) few in
       let above : s .minimum-readable-version ≤ v = ltb-false _ _ low in
@@ -183,7 +189,7 @@ module _ {n : ℕ} (few : n < top) {L : Ledger} (s : State) (i : Inv n (core s) 
       let in-time : s .lease-clock-tick < d = leb-false _ _ late in
       record {
         inv = record {
-          good = record { format-1 = g .format-1; ordered = g .ordered; lease-ok = found-insert (LeaseOk _ _ _) id _ (s .leases) (record { own-id = refl; above = above; below = below; in-time = in-time }) (g .lease-ok); job-ok = g .job-ok };
+          good = record { format-1 = g .format-1; ordered = g .ordered; lease-ok = found-insert (LeaseOk _ _ _ _) id _ (s .leases) (record { own-id = refl; above = above; below = below; in-time = in-time; unreserved = none-reserved s c free }) (g .lease-ok); job-ok = g .job-ok };
           linked = begin-linked _ id v c _ (i .linked) (is-none _ new) (omega arith) (omega arith) (record { its-id = refl; its-version = refl; its-closure = refl; no-newer = omega arith });
           count = omega (arith, i .count);
         };
@@ -192,14 +198,14 @@ module _ {n : ℕ} (few : n < top) {L : Ledger} (s : State) (i : Inv n (core s) 
 
   renew-keeps : (id : Text) (e d : ℕ) (x : AuthorityContext) → Accepts (Keeps (RenewLease id e d)) (renew-lease s id e d x no-faults)
   unfolding renew-lease
-  renew-keeps id e d x = λ old at _ late _. plain
+  renew-keeps id e d x = λ old at _ late _ _. plain
       let g = i .good in
       let next = up-next (s .lease-epoch) n (i .count) few in
       let ok = g .lease-ok id old at in
       let in-time : s .lease-clock-tick < d = leb-false _ _ late in
       record {
         inv = record {
-          good = record { format-1 = g .format-1; ordered = g .ordered; lease-ok = found-insert (LeaseOk _ _ _) id _ (s .leases) (record { own-id = ok .own-id; above = ok .above; below = ok .below; in-time = in-time }) (g .lease-ok); job-ok = g .job-ok };
+          good = record { format-1 = g .format-1; ordered = g .ordered; lease-ok = found-insert (LeaseOk _ _ _ _) id _ (s .leases) (record { own-id = ok .own-id; above = ok .above; below = ok .below; in-time = in-time; unreserved = ok .unreserved }) (g .lease-ok); job-ok = g .job-ok };
           linked = renew-linked _ id old _ (i .linked) at (omega arith) (omega arith) (record { its-id = ok .own-id; its-version = refl; its-closure = refl; no-newer = omega arith });
           count = omega (arith, i .count);
         };
@@ -213,7 +219,7 @@ module _ {n : ℕ} (few : n < top) {L : Ledger} (s : State) (i : Inv n (core s) 
       let next = up-next (s .lease-epoch) n (i .count) few in
       record {
         inv = record {
-          good = record { format-1 = g .format-1; ordered = g .ordered; lease-ok = found-remove (LeaseOk _ _ _) id (s .leases) (g .lease-ok); job-ok = g .job-ok };
+          good = record { format-1 = g .format-1; ordered = g .ordered; lease-ok = found-remove (LeaseOk _ _ _ _) id (s .leases) (g .lease-ok); job-ok = g .job-ok };
           linked = raise _ (omega arith) (end-linked id (i .linked));
           count = omega (arith, i .count);
         };
@@ -239,7 +245,7 @@ module _ {n : ℕ} (few : n < top) {L : Ledger} (s : State) (i : Inv n (core s) 
                 let f = lookup-remove-all ids k t (s .leases) h in
                 let ok = g .lease-ok k t (f .1) in
                 let out : p t ≡ false = by-test (λ b. p t ≡ b → p t ≡ false) (p t) (λ _ y. no-way (rearranged-any (same k) (expired-rearranged s d) ∙ keys-where-has p (s .leases) k t (f .1) y) (f .0)) (λ _ y. y) refl in
-                record { own-id = ok .own-id; above = ok .above; below = ok .below; in-time = leb-false _ _ out };
+                record { own-id = ok .own-id; above = ok .above; below = ok .below; in-time = leb-false _ _ out; unreserved = ok .unreserved };
             job-ok = g .job-ok;
           };
           linked = raise _ (m .0) (end-all-linked ids (i .linked));
@@ -309,10 +315,25 @@ module _ {n : ℕ} (few : n < top) {L : Ledger} (s : State) (i : Inv n (core s) 
   unfolding unpin
   unpin-keeps id x = λ _ _ _. plain quiet i
 
+  -- other reservations, of which no stored lease names one
+  with-reservations : (m : Map DeletePermit)
+      → ((id : Text) (t : SnapshotLeaseToken) → lookup id (s .leases) ≡ some t → Unreserved (s .deletion-reservations) (t .closure) → Unreserved m (t .closure))
+      → Kept n (core s) (core (set-deletion-reservations m s)) L
+  with-reservations m free =
+      let g = i .good in
+      record {
+        inv = record {
+          good = record { format-1 = g .format-1; ordered = g .ordered; lease-ok = λ id t h. let l = g .lease-ok id t h in record { own-id = l .own-id; above = l .above; below = l .below; in-time = l .in-time; unreserved = free id t h (l .unreserved) }; job-ok = g .job-ok };
+          linked = i .linked;
+          count = omega (arith, i .count);
+        };
+        rises = rises-refl;
+      }
+
   reserve-keeps : (p : Text) (e : ℕ) (k : Text) (x : ObjectIdentity) (c : AuthorityContext) → Accepts (Keeps (ReserveDelete p e k x)) (reserve-delete s p e k x c no-faults)
   unfolding reserve-delete
   reserve-keeps p e k x c = λ _ _ _ _ _ unnamed _ _. (
-    quiet i,
+    with-reservations _ (λ id t h. found-insert (λ key _. names (t .closure) key ≡ false) k _ (s .deletion-reservations) (any-value-false (λ u. names (u .closure) k) (s .leases) id t unnamed h)),
     λ id l h.
         let w = linked-live id l (i .linked) h in
         rw (← w .ok .its-closure) (any-value-false (λ t. names (t .closure) k) (s .leases) id (w .token) unnamed (w .stored)),
@@ -320,7 +341,7 @@ module _ {n : ℕ} (few : n < top) {L : Ledger} (s : State) (i : Inv n (core s) 
 
   retire-keeps : (p : DeletePermit) (c : ℕ) → Accepts (Keeps (RetireDelete p)) (retire-delete s p c no-faults)
   unfolding retire-delete
-  retire-keeps p c = λ _ _ _ _. plain quiet i
+  retire-keeps p c = λ _ _ _ _. plain with-reservations _ (λ id t h. found-remove (λ key _. names (t .closure) key ≡ false) (p .key) (s .deletion-reservations))
 
   pub act-keeps : (a : Action) (c : AuthorityContext) → Accepts (Keeps a) (act s a c no-faults)
   unfolding act

@@ -1,6 +1,7 @@
 -- `apply` and `validate_active_snapshot_lease` of the Rust, over plain maps: one definition to a function, its tests in its order.
 -- Where the Rust has `test && !faults.f` the flag stands first, so that the test computes away when the flag is known.
 use Prim.Native.Nat.{ℕ}
+use mathlib.Core.List.{List}
 use mathlib.Core.Option.{Option, none, some}
 use mathlib.Core.Bool.{Bool, false, not, cond, _&&_, _||_}
 use lib.Dec.{leb, ltb, eqb}
@@ -36,6 +37,11 @@ configure-collection-root s expected destination-root = do
   refuse CollectionConflict if not (is-empty (s .collection-jobs))
   accept (root-configured s destination-root) Applied
 
+-- A key of the set is reserved for deletion. The Rust asks it of a publication and of a receipt; request K3 asks it of a lease, after
+-- all that the Rust asks, and under any fault flags.
+abbrev pub any-reserved : State → List Text → Bool
+any-reserved s keys = any (λ key. has-key key (s .deletion-reservations)) keys
+
 unfoldable pub acquire-lease : State → Text → Text → ℕ → Text → Text → ℕ → SnapshotClosure → AuthorityContext → PublicationAuthorityFaults → Rule
 acquire-lease s lease-id tenant-id snapshot-version owner purpose deadline-tick closure context faults = do
   refuse InvalidRequest if is-empty lease-id
@@ -49,6 +55,7 @@ acquire-lease s lease-id tenant-id snapshot-version owner purpose deadline-tick 
   refuse SnapshotBelowFloor if not (faults .accept-backdated-lease) && ltb snapshot-version (s .minimum-readable-version)
   refuse SnapshotAheadOfFrontier if ltb (s .observed-commit-frontier) snapshot-version
   refuse LeaseDeadlineInvalid if leb deadline-tick (s .lease-clock-tick)
+  refuse ObjectDeletionReserved if any-reserved s (closure .object-keys)
   let token = new-lease s lease-id tenant-id snapshot-version owner purpose deadline-tick closure context
   accept (acquired s lease-id token (faults .omit-lease-root-epoch)) (LeaseAcquired token)
 
@@ -58,6 +65,7 @@ renew-lease s lease-id expected-lease-epoch new-deadline-tick context faults = d
   refuse LeaseEpochMismatch if not (eqb (existing .lease-epoch) expected-lease-epoch)
   refuse LeaseDeadlineInvalid if leb new-deadline-tick (s .lease-clock-tick)
   refuse LeaseDeadlineInvalid if leb new-deadline-tick (existing .deadline-tick)
+  refuse ObjectDeletionReserved if any-reserved s (existing .closure .object-keys)
   let token = renewed-lease s existing new-deadline-tick context
   accept (renewed s lease-id token (faults .omit-lease-root-epoch)) (LeaseRenewed token)
 
@@ -113,7 +121,7 @@ publish-collection s receipt generation faults = do
   refuse CollectionRootCompareFailed if not (same-option same (s .collection-root) (some (prepared .destination-root)))
   refuse CollectionFrontierMismatch if not (eqb (prepared .expected-collected-through) (s .physically-collected-through))
   refuse RootCompareFailed if not (faults .ignore-collection-input-root) && not (same-option reference-eq (lookup (prepared .destination-root) (s .roots)) (some (prepared .input-manifest)))
-  refuse ObjectDeletionReserved if any (λ key. has-key key (s .deletion-reservations)) (receipt .object-keys)
+  refuse ObjectDeletionReserved if any-reserved s (receipt .object-keys)
   accept (collection-published s prepared (receipt .output-manifest)) (CollectionPublished receipt)
 
 unfoldable pub abandon-collection : State → CollectionJobToken → ℕ → Rule
@@ -128,7 +136,7 @@ prepare s publication-id intent owner-generation faults = do
   refuse InvalidRequest if is-empty publication-id
   refuse InvalidRequest if not (valid-intent intent)
   refuse PublicationExists if has-key publication-id (s .intents)
-  refuse ObjectDeletionReserved if not (faults .ignore-delete-reservation) && any (λ key. has-key key (s .deletion-reservations)) (intent .object-keys)
+  refuse ObjectDeletionReserved if not (faults .ignore-delete-reservation) && any-reserved s (intent .object-keys)
   accept (intent-prepared s publication-id (record { owner-generation = owner-generation; intent = intent })) Applied
 
 -- the guard of `publish` on the stored intent

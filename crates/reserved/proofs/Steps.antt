@@ -3,10 +3,10 @@ use Prim.Native.Nat.{ℕ, zero, suc, _+_, _-_, _≤_, _<_}
 use native.Mathlib.Omega.{arith}
 use native.Mathlib.Nat.{sub-zero}
 use native.Mathlib.Numerals.{add-one}
-use mathlib.Core.Bool.{Bool, true, false, not, _||_}
+use mathlib.Core.Bool.{Bool, true, false, not, _&&_, _||_}
 use mathlib.Core.List.{List, [], _∷_}
 use mathlib.Core.Path.{_≡_, refl, sym, ap, _∙_}
-use lib.ListN.{length, take, drop, getD, drop-of-length-le}
+use lib.ListN.{length, drop, getD, drop-of-length-le}
 use lib.Seq.{drop-cons}
 use Rattle.text.specs.Order.{orderOf}
 use Rattle.text.specs.OrderLaws.{flip, order-flip, order-trans}
@@ -18,7 +18,9 @@ use Rattle.fields.specs.Walks.{placeOf, rest-drop, rest-trans, rest-place, hop-
 use Rattle.tables.specs.Skips.{skip-rest}
 use Rattle.tables.specs.Seek.{nothing-at, seek, row-of}
 use Rattle.sets.specs.Sets.{texts-of, set-of}
-use Rattle.reserved.specs.Located.{locatedIn}
+use Rattle.image.specs.CodeLists.{permit-codes}
+use Rattle.image.specs.declared.Table.{Table}
+use Rattle.reserved.specs.Located.{locatedIn, reservedIn}
 use Rattle.reserved.specs.Passed.{Passed}
 
 module _ (P : Text → Bool) (s : List ℕ) where
@@ -117,3 +119,8 @@ module _ (cs : List Code) (s : List ℕ) (id : Text) (p n : ℕ) (t : Text) (e :
           let d : orderOf k t ≡ Greater = order-flip t k ∙ ap flip (order-trans t id k a l) in
           q .later k l ∙ row-on k d;
     }
+
+-- the test on reservations, with the codes of the source
+pub tested : (ignore b : Bool) (x : List ℕ) (t : Table) (ks : List Text) → ignore ≡ false → b ≡ any (locatedIn (codesOf (128 ∷ 12 ∷ 64 ∷ 12 ∷ 64 ∷ 8 ∷ 64 ∷ 64 ∷ 8 ∷ 8 ∷ 8 ∷ [])) (t .count) (drop (t .at) x)) ks
+    → b ≡ (not ignore && reservedIn x t ks)
+tested ignore b x t ks h e = e ∙ ap (λ (cs : List Code). any (locatedIn cs (t .count) (drop (t .at) x)) ks) permit-codes ∙ ap (λ (i : Bool). not i && reservedIn x t ks) (sym h)

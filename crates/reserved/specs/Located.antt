@@ -15,6 +15,9 @@ use Rattle.tables.specs.SeekLaws.{Hopped}
 use Rattle.image.specs.Shapes.{permit}
 use Rattle.image.specs.Layout.{encodeImage, Formed}
 use Rattle.image.specs.Tables.{permit-row}
+use Rattle.image.specs.Opened.{contentsOf}
+use Rattle.image.specs.declared.Contents.{Contents}
+use Rattle.image.specs.declared.Table.{Table}
 use Rattle.image.specs.ImageParts.{reservations-at, from-leases, at-reservations}
 use Rattle.image.specs.Stored.{find-row, reservations-stored}
 
@@ -46,9 +49,13 @@ permit-full : NotEmpty permit-row
 unfolding enc enc-text
 permit-full (k ⟼ v) r = refl
 
--- RESERVED KEYS OF A STATE
-pub reserved-here : (s : State) (x : List ℕ) → encodeImage s ≡ x → Formed s → (ks : List Text)
-    → any (locatedIn (codes permit) (length (s .deletion-reservations)) (drop (reservations-at s) x)) ks ≡ any (λ k. has-key k (s .deletion-reservations)) ks
-reserved-here s x e f ks =
-    any-located-is (codes permit) permit-row permit-full x (reservations-at s) (s .deletion-reservations) (from-leases s) (ap (drop (reservations-at s)) (sym e) ∙ at-reservations s)
+-- RESERVED KEYS: those with a row in the table of reservations; of a state, those that the map has
+abbrev pub reservedIn : List ℕ → Table → List Text → Bool
+reservedIn x t ks = any (locatedIn (codes permit) (t .count) (drop (t .at) x)) ks
+
+pub reserved-here : (s : State) (x : List ℕ) → encodeImage s ≡ x → Formed s → (c : Contents) → c ≡ contentsOf s → (ks : List Text)
+    → reservedIn x (c .reservations) ks ≡ any (λ k. has-key k (s .deletion-reservations)) ks
+reserved-here s x e f c o ks =
+    ap (λ (d : Contents). reservedIn x (d .reservations) ks) o
+    ∙ any-located-is (codes permit) permit-row permit-full x (reservations-at s) (s .deletion-reservations) (from-leases s) (ap (drop (reservations-at s)) (sym e) ∙ at-reservations s)
     (reservations-stored s f .ascending) (reservations-stored s f .hopped) ks

@@ -1,11 +1,13 @@
-// Keys of a set that are ids of rows of a table: what a publication names and a reservation holds.
+// Keys of a set that are ids of rows of a table: what a publication or a lease names and a reservation holds.
 ghost use mathlib.Core.Path.{_≡_};
+ghost use mathlib.Core.Bool.{not, _&&_};
 ghost use lib.ListN.{drop};
 ghost use Rattle.state.specs.Maps.{any};
 ghost use Rattle.fields.specs.Codes.{codesOf};
 ghost use Rattle.sets.specs.Sets.{set-of};
-ghost use Rattle.reserved.specs.Located.{locatedIn};
+ghost use Rattle.reserved.specs.Located.{locatedIn, reservedIn};
 ghost use Rattle.reserved.specs.Passed.{Passed};
+use image::Table;
 use text::Order;
 
 // Where a search stopped: at a row, with so many rows from it on, and whether it has the id.
@@ -77,24 +79,17 @@ fn resume(codes: &[u8], s: &[u8], at: usize, n: usize, last: &[u8], from: Stop, 
     }
 }
 
-// Whether a row of the table has a key of the set that stands at a place of the request as its id.
-pub fn any_located(
-    codes: &[u8],
-    s: &[u8],
-    at: usize,
-    n: usize,
-    request: &[u8],
-    set_at: usize,
-) -> bool
-    ensures { λ r. ⌜ r ≡ any (locatedIn (codesOf (now (codes .entry))) n (drop at (now (s .entry)))) (set-of (drop «set_at» (now (request .entry)))) ⌝ }
+// Whether a row of the table has a key of the set that stands at a place of a request or a row as its id.
+fn any_located(codes: &[u8], s: &[u8], at: usize, n: usize, holder: &[u8], set_at: usize) -> bool
+    ensures { λ r. ⌜ r ≡ any (locatedIn (codesOf (now (codes .entry))) n (drop at (now (s .entry)))) (set-of (drop «set_at» (now (holder .entry)))) ⌝ }
 {
-    if request.len() <= set_at {
+    if holder.len() <= set_at {
         return false;
     }
     if n == 0 {
         return false;
     }
-    let keys = request[set_at];
+    let keys = holder[set_at];
     let key = [128u8];
     let mut i = 0;
     let mut p = set_at + 1;
@@ -110,16 +105,39 @@ pub fn any_located(
             s,
             at,
             n,
-            fields::text_at(request, last),
+            fields::text_at(holder, last),
             stop,
-            fields::text_at(request, p),
+            fields::text_at(holder, p),
         );
         if stop.found {
             return true;
         }
         last = p;
-        p = tables::skip_record(&key, request, p);
+        p = tables::skip_record(&key, holder, p);
         i += 1;
     }
     false
+}
+
+// Whether a key of the set that stands at a place of a request or a row is reserved for deletion; a fault flag leaves the test out.
+pub fn is_reserved(
+    ignore: bool,
+    image: &[u8],
+    reservations: Table,
+    holder: &[u8],
+    keys: usize,
+) -> bool
+    ensures { λ r. ⌜ r ≡ (not ignore && reservedIn (now (image .entry)) reservations (set-of (drop keys (now (holder .entry))))) ⌝ }
+{
+    if ignore {
+        return false;
+    }
+    any_located(
+        &image::PERMIT,
+        image,
+        reservations.at,
+        reservations.count,
+        holder,
+        keys,
+    )
 }

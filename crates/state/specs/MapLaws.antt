@@ -29,6 +29,10 @@ pub by-test {ℓ} : (P : Bool → Type ℓ) (b : Bool) → (b ≡ true → P tru
 by-test P true f g = f refl
 by-test P false f g = g refl
 
+both-false : (a b : Bool) → (a || b) ≡ false → (a ≡ false) × (b ≡ false)
+both-false true b e = no-way refl e
+both-false false b e = (refl, e)
+
 pub is-less-true : (o : Order) → is-less o ≡ true → o ≡ Less
 is-less-true Less e = refl
 is-less-true Equal e = no-way e refl
@@ -99,11 +103,10 @@ module _ {A : Type 0} where
   unfolding lookup any-value
   any-value-false p [] k v e h = option-clash h
   any-value-false p ((j ⟼ w) ∷ m) k v e h =
-      let pw : p w ≡ false = by-test (λ b. (b || any-value p m) ≡ false → b ≡ false) (p w) (λ _ z. z) (λ _ z. refl) e in
-      let rest : any-value p m ≡ false = rw pw at e in
+      let neither = both-false (p w) (any-value p m) e in
       by-test (λ b. cond b (some w) (lookup k m) ≡ some v → p v ≡ false) (same k j)
-      (λ _ z. let q : w ≡ v = cc in rw (← q) pw)
-      (λ _ z. any-value-false p m k v rest z) h
+      (λ _ z. let q : w ≡ v = cc in rw (← q) (neither .0))
+      (λ _ z. any-value-false p m k v (neither .1) z) h
 
   pub keys-where-has : (p : A → Bool) (m : Map A) (k : Text) (v : A) → lookup k m ≡ some v → p v ≡ true → contains k (keys-where p m) ≡ true
   unfolding lookup select any
@@ -114,6 +117,16 @@ module _ {A : Type 0} where
       (λ e z. by-test (λ b. contains k (map key-of (cond b ((j ⟼ w) ∷ entries-where p m) (entries-where p m))) ≡ true) (p w)
       (λ _. rw e (keys-where-has p m k v z t))
       (λ _. keys-where-has p m k v z t)) h
+
+-- a key that passes a test is not among keys of which none does
+pub none-contained : (p : Text → Bool) (ks : List Text) (k : Text) → any p ks ≡ false → p k ≡ true → contains k ks ≡ false
+unfolding any
+none-contained p [] k e h = refl
+none-contained p (j ∷ ks) k e h =
+    let neither = both-false (p j) (any p ks) e in
+    by-test (λ b. same k j ≡ b → (b || contains k ks) ≡ false) (same k j)
+    (λ _ q. no-way (ap p (sym (same-true k j q)) ∙ h) (neither .0))
+    (λ _ _. none-contained p ks k (neither .1) h) refl
 
 -- A PROPERTY OF WHAT IS FOUND
 module _ {A : Type 0} (P : Text → A → Type 0) where

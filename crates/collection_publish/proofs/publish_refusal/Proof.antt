@@ -36,17 +36,14 @@ other-input-requires c κs = search needs
 returns-3 : tie.Need-returns-3
 returns-3 c = at-input ((c .before .before .before .before .before .before .before .before .before .before .before .before .before .before .before .before .before .args) .image .now) ((c .before .before .before .before .before .before .before .before .before .before .before .before .before .before .before .before .before .args) .c) ((c .before .before .before .before .before .before .before .before .before .before .before .before .before .before .before .before .before .args) .request .now) ((c .before .before .before .before .before .before .before .before .before .before .before .before .before .before .before .before .before .args) .x) ((c .before .before .before .before .before .before .before .before .before .before .before .before .before .before .before .before .before .args) .f) ((c .before .before .before .before .before .before .before .before .before .before .before .before .before .before .before .before .before .args) .a) _ ((c .before .before .before .before .before .before .before .before .receipt-refusal) .ensures) ((c .before .before .before .before .before .before .before .if1) .left) _ ((c .before .before .before .before .before .before .stale) .ensures) ((c .before .before .before .before .before .if2) .left) _ _ ((c .before .before .before .before .clip) .ensures) ((c .before .before .before .clip2) .ensures) _ ((c .before .before .input-stands) .ensures) _ ((c .before .other-input) .ensures) ((c .if3) .taken)
 
-slice-aggregate-any-located : tie.Need-slice-aggregate-any-located
-slice-aggregate-any-located c = search needs
-
-any-located-requires : tie.Need-any-located-requires
-any-located-requires c κs = search needs
+is-reserved-requires : tie.Need-is-reserved-requires
+is-reserved-requires c κs = search needs
 
 returns-4 : tie.Need-returns-4
-returns-4 c = at-reserved ((c .before .before .before .before .before .before .before .before .before .before .before .before .before .before .before .before .before .before .before .before .args) .image .now) ((c .before .before .before .before .before .before .before .before .before .before .before .before .before .before .before .before .before .before .before .before .args) .c) ((c .before .before .before .before .before .before .before .before .before .before .before .before .before .before .before .before .before .before .before .before .args) .request .now) ((c .before .before .before .before .before .before .before .before .before .before .before .before .before .before .before .before .before .before .before .before .args) .x) ((c .before .before .before .before .before .before .before .before .before .before .before .before .before .before .before .before .before .before .before .before .args) .f) ((c .before .before .before .before .before .before .before .before .before .before .before .before .before .before .before .before .before .before .before .before .args) .a) _ ((c .before .before .before .before .before .before .before .before .before .before .before .receipt-refusal) .ensures) ((c .before .before .before .before .before .before .before .before .before .before .if1) .left) _ ((c .before .before .before .before .before .before .before .before .before .stale) .ensures) ((c .before .before .before .before .before .before .before .before .if2) .left) _ _ ((c .before .before .before .before .before .before .before .clip) .ensures) ((c .before .before .before .before .before .before .clip2) .ensures) _ ((c .before .before .before .before .before .input-stands) .ensures) _ ((c .before .before .before .before .other-input) .ensures) ((c .before .before .before .if3) .left) _ ((c .before .any-located) .ensures) ((c .if4) .taken)
+returns-4 c = at-reserved ((c .before .before .before .before .before .before .before .before .before .before .before .before .before .before .before .before .before .before .before .args) .image .now) ((c .before .before .before .before .before .before .before .before .before .before .before .before .before .before .before .before .before .before .before .args) .c) ((c .before .before .before .before .before .before .before .before .before .before .before .before .before .before .before .before .before .before .before .args) .request .now) ((c .before .before .before .before .before .before .before .before .before .before .before .before .before .before .before .before .before .before .before .args) .x) ((c .before .before .before .before .before .before .before .before .before .before .before .before .before .before .before .before .before .before .before .args) .f) ((c .before .before .before .before .before .before .before .before .before .before .before .before .before .before .before .before .before .before .before .args) .a) _ ((c .before .before .before .before .before .before .before .before .before .before .receipt-refusal) .ensures) ((c .before .before .before .before .before .before .before .before .before .if1) .left) _ ((c .before .before .before .before .before .before .before .before .stale) .ensures) ((c .before .before .before .before .before .before .before .if2) .left) _ _ ((c .before .before .before .before .before .before .clip) .ensures) ((c .before .before .before .before .before .clip2) .ensures) _ ((c .before .before .before .before .input-stands) .ensures) _ ((c .before .before .before .other-input) .ensures) ((c .before .before .if3) .left) _ ((c .before .is-reserved) .ensures) ((c .if4) .taken)
 
 returns-5 : tie.Need-returns-5
-returns-5 c = at-none ((c .before .before .before .before .before .before .before .before .before .before .before .before .before .before .before .before .before .before .before .before .args) .image .now) ((c .before .before .before .before .before .before .before .before .before .before .before .before .before .before .before .before .before .before .before .before .args) .c) ((c .before .before .before .before .before .before .before .before .before .before .before .before .before .before .before .before .before .before .before .before .args) .request .now) ((c .before .before .before .before .before .before .before .before .before .before .before .before .before .before .before .before .before .before .before .before .args) .x) ((c .before .before .before .before .before .before .before .before .before .before .before .before .before .before .before .before .before .before .before .before .args) .f) ((c .before .before .before .before .before .before .before .before .before .before .before .before .before .before .before .before .before .before .before .before .args) .a) _ ((c .before .before .before .before .before .before .before .before .before .before .before .receipt-refusal) .ensures) ((c .before .before .before .before .before .before .before .before .before .before .if1) .left) _ ((c .before .before .before .before .before .before .before .before .before .stale) .ensures) ((c .before .before .before .before .before .before .before .before .if2) .left) _ _ ((c .before .before .before .before .before .before .before .clip) .ensures) ((c .before .before .before .before .before .before .clip2) .ensures) _ ((c .before .before .before .before .before .input-stands) .ensures) _ ((c .before .before .before .before .other-input) .ensures) ((c .before .before .before .if3) .left) _ ((c .before .any-located) .ensures) ((c .if4) .left)
+returns-5 c = at-none ((c .before .before .before .before .before .before .before .before .before .before .before .before .before .before .before .before .before .before .before .args) .image .now) ((c .before .before .before .before .before .before .before .before .before .before .before .before .before .before .before .before .before .before .before .args) .c) ((c .before .before .before .before .before .before .before .before .before .before .before .before .before .before .before .before .before .before .before .args) .request .now) ((c .before .before .before .before .before .before .before .before .before .before .before .before .before .before .before .before .before .before .before .args) .x) ((c .before .before .before .before .before .before .before .before .before .before .before .before .before .before .before .before .before .before .before .args) .f) ((c .before .before .before .before .before .before .before .before .before .before .before .before .before .before .before .before .before .before .before .args) .a) _ ((c .before .before .before .before .before .before .before .before .before .before .receipt-refusal) .ensures) ((c .before .before .before .before .before .before .before .before .before .if1) .left) _ ((c .before .before .before .before .before .before .before .before .stale) .ensures) ((c .before .before .before .before .before .before .before .if2) .left) _ _ ((c .before .before .before .before .before .before .clip) .ensures) ((c .before .before .before .before .before .clip2) .ensures) _ ((c .before .before .before .before .input-stands) .ensures) _ ((c .before .before .before .other-input) .ensures) ((c .before .before .if3) .left) _ ((c .before .is-reserved) .ensures) ((c .if4) .left)
 
 pub publish-refusal-spec : {M : Type 1} → statement M
 publish-refusal-spec =
@@ -62,7 +59,6 @@ publish-refusal-spec =
     input-stands-requires
     other-input-requires
     returns-3
-    slice-aggregate-any-located
-    any-located-requires
+    is-reserved-requires
     returns-4
     returns-5)

@@ -1,6 +1,6 @@
 use Rattle.next.specs.Call.{refused}
 use Rattle.leases.specs.Placed.{found-as, no-row, a-row}
-use Rattle.leases.specs.Renew.{none-held, other-epoch, not-later, no-longer, longer}
+use Rattle.leases.specs.Renew.{none-held, other-epoch, not-later, no-longer, is-reserved, is-renewed}
 use borrow.Author.Needs.{needs}
 use Rattle.leases.proofs.renew_lease.Statement.{statement}
 use Rattle.leases.proofs.renew_lease.Tie as tie
@@ -21,7 +21,14 @@ refuse-requires : tie.Need-refuse-requires
 refuse-requires c κs = search needs
 
 returns : tie.Need-returns
-returns c = let f = found-as _ ((c .before .before .before .before .before .clip) .ensures) ((c .before .before .before .locate) .ensures) in refused (c .before .before .before .before .before .before .before .before .before .before .before .before .before .pre) 22 (none-held (c .before .before .before .before .before .before .before .before .before .before .before .before .before .pre) f (no-row f ((c .before .before .row) .ensures) ((c .before .if1) .taken))) ((c .refuse) .ensures)
+returns c =
+    let at-if1 = c .before in
+    let at-row = at-if1 .before in
+    let at-locate = at-row .before in
+    let at-clip = at-locate .before .before in
+    let start = at-clip .before .before .before .before .before .before .before .before in
+    let found = found-as _ (at-clip .clip .ensures) (at-locate .locate .ensures) in
+    refused (start .pre) 22 (none-held (start .pre) found (no-row found (at-row .row .ensures) (at-if1 .if1 .taken))) (c .refuse .ensures)
 
 lease-token-at-requires : tie.Need-lease-token-at-requires
 lease-token-at-requires c κs = search needs
@@ -30,25 +37,92 @@ refuse-requires-2 : tie.Need-refuse-requires-2
 refuse-requires-2 c κs = search needs
 
 returns-2 : tie.Need-returns-2
-returns-2 c = let f = found-as _ ((c .before .before .before .before .before .before .before .before .before .clip) .ensures) ((c .before .before .before .before .before .before .before .locate) .ensures) in refused (c .before .before .before .before .before .before .before .before .before .before .before .before .before .before .before .before .before .pre) 23 (other-epoch (c .before .before .before .before .before .before .before .before .before .before .before .before .before .before .before .before .before .pre) f (a-row f ((c .before .before .before .before .before .before .row) .ensures) ((c .before .before .before .before .before .if1) .left)) ((c .before .before .before .before .before .before .row) .ensures) ((c .before .before .before .before .lease-token-at) .ensures) ((c .before .if2) .taken)) ((c .refuse2) .ensures)
+returns-2 c =
+    let at-if2 = c .before in
+    let at-lease-token-at = at-if2 .before .before .before in
+    let at-if1 = at-lease-token-at .before in
+    let at-row = at-if1 .before in
+    let at-locate = at-row .before in
+    let at-clip = at-locate .before .before in
+    let start = at-clip .before .before .before .before .before .before .before .before in
+    let found = found-as _ (at-clip .clip .ensures) (at-locate .locate .ensures) in
+    let there = a-row found (at-row .row .ensures) (at-if1 .if1 .left) in
+    refused (start .pre) 23 (other-epoch (start .pre) found there (at-row .row .ensures) (at-lease-token-at .lease-token-at .ensures) (at-if2 .if2 .taken)) (c .refuse2 .ensures)
+
+is-reserved-requires : tie.Need-is-reserved-requires
+is-reserved-requires c κs = search needs
 
 refuse-requires-3 : tie.Need-refuse-requires-3
 refuse-requires-3 c κs = search needs
 
 returns-3 : tie.Need-returns-3
-returns-3 c = let f = found-as _ ((c .before .before .before .before .before .before .before .before .before .before .before .before .clip) .ensures) ((c .before .before .before .before .before .before .before .before .before .before .locate) .ensures) in refused (c .before .before .before .before .before .before .before .before .before .before .before .before .before .before .before .before .before .before .before .before .pre) 24 (not-later (c .before .before .before .before .before .before .before .before .before .before .before .before .before .before .before .before .before .before .before .before .pre) f (a-row f ((c .before .before .before .before .before .before .before .before .before .row) .ensures) ((c .before .before .before .before .before .before .before .before .if1) .left)) ((c .before .before .before .before .before .before .before .before .before .row) .ensures) ((c .before .before .before .before .before .before .before .lease-token-at) .ensures) ((c .before .before .before .before .if2) .left) ((c .before .if3) .taken)) ((c .refuse3) .ensures)
+returns-3 c =
+    let at-if3 = c .before in
+    let at-if2 = at-if3 .before .before .before .before .before .before .before in
+    let at-lease-token-at = at-if2 .before .before .before in
+    let at-if1 = at-lease-token-at .before in
+    let at-row = at-if1 .before in
+    let at-locate = at-row .before in
+    let at-clip = at-locate .before .before in
+    let start = at-clip .before .before .before .before .before .before .before .before in
+    let found = found-as _ (at-clip .clip .ensures) (at-locate .locate .ensures) in
+    let there = a-row found (at-row .row .ensures) (at-if1 .if1 .left) in
+    refused (start .pre) 24 (not-later (start .pre) found there (at-row .row .ensures) (at-lease-token-at .lease-token-at .ensures) (at-if2 .if2 .left) (at-if3 .if3 .taken)) (c .refuse3 .ensures)
 
 refuse-requires-4 : tie.Need-refuse-requires-4
 refuse-requires-4 c κs = search needs
 
 returns-4 : tie.Need-returns-4
-returns-4 c = let f = found-as _ ((c .before .before .before .before .before .before .before .before .before .before .before .before .before .before .before .clip) .ensures) ((c .before .before .before .before .before .before .before .before .before .before .before .before .before .locate) .ensures) in refused (c .before .before .before .before .before .before .before .before .before .before .before .before .before .before .before .before .before .before .before .before .before .before .before .pre) 24 (no-longer (c .before .before .before .before .before .before .before .before .before .before .before .before .before .before .before .before .before .before .before .before .before .before .before .pre) f (a-row f ((c .before .before .before .before .before .before .before .before .before .before .before .before .row) .ensures) ((c .before .before .before .before .before .before .before .before .before .before .before .if1) .left)) ((c .before .before .before .before .before .before .before .before .before .before .before .before .row) .ensures) ((c .before .before .before .before .before .before .before .before .before .before .lease-token-at) .ensures) ((c .before .before .before .before .before .before .before .if2) .left) ((c .before .before .before .before .if3) .left) ((c .before .if4) .taken)) ((c .refuse4) .ensures)
+returns-4 c =
+    let at-if4 = c .before in
+    let at-if3 = at-if4 .before .before .before in
+    let at-if2 = at-if3 .before .before .before .before .before .before .before in
+    let at-lease-token-at = at-if2 .before .before .before in
+    let at-if1 = at-lease-token-at .before in
+    let at-row = at-if1 .before in
+    let at-locate = at-row .before in
+    let at-clip = at-locate .before .before in
+    let start = at-clip .before .before .before .before .before .before .before .before in
+    let found = found-as _ (at-clip .clip .ensures) (at-locate .locate .ensures) in
+    let there = a-row found (at-row .row .ensures) (at-if1 .if1 .left) in
+    refused (start .pre) 24 (no-longer (start .pre) found there (at-row .row .ensures) (at-lease-token-at .lease-token-at .ensures) (at-if2 .if2 .left) (at-if3 .if3 .left) (at-if4 .if4 .taken)) (c .refuse4 .ensures)
+
+refuse-requires-5 : tie.Need-refuse-requires-5
+refuse-requires-5 c κs = search needs
+
+returns-5 : tie.Need-returns-5
+returns-5 c =
+    let at-if5 = c .before in
+    let at-if4 = at-if5 .before in
+    let at-if3 = at-if4 .before .before .before in
+    let at-is-reserved = at-if3 .before .before .before in
+    let at-if2 = at-is-reserved .before .before .before .before in
+    let at-lease-token-at = at-if2 .before .before .before in
+    let at-if1 = at-lease-token-at .before in
+    let at-row = at-if1 .before in
+    let at-locate = at-row .before in
+    let at-clip = at-locate .before .before in
+    let start = at-clip .before .before .before .before .before .before .before .before in
+    let found = found-as _ (at-clip .clip .ensures) (at-locate .locate .ensures) in
+    let there = a-row found (at-row .row .ensures) (at-if1 .if1 .left) in
+    refused (start .pre) 10 (is-reserved (start .pre) found there (at-row .row .ensures) (at-lease-token-at .lease-token-at .ensures) (at-if2 .if2 .left) (at-if3 .if3 .left) (at-if4 .if4 .left) (at-is-reserved .is-reserved .ensures) (at-if5 .if5 .taken)) (c .refuse5 .ensures)
 
 put-renewed-requires : tie.Need-put-renewed-requires
 put-renewed-requires c κs =
-    let f = found-as _ ((c .before .before .before .before .before .before .before .before .before .before .before .before .before .before .before .before .clip) .ensures) ((c .before .before .before .before .before .before .before .before .before .before .before .before .before .before .locate) .ensures) in
-    let t = a-row f ((c .before .before .before .before .before .before .before .before .before .before .before .before .before .row) .ensures) ((c .before .before .before .before .before .before .before .before .before .before .before .before .if1) .left) in
-    record { ready = (c .before .before .before .before .before .before .before .before .before .before .before .before .before .before .before .before .before .before .before .before .before .before .before .before .pre); found = f; there = t; row-is = (c .before .before .before .before .before .before .before .before .before .before .before .before .before .row) .ensures; read = (c .before .before .before .before .before .before .before .before .before .before .before .lease-token-at) .ensures; taken = longer (c .before .before .before .before .before .before .before .before .before .before .before .before .before .before .before .before .before .before .before .before .before .before .before .before .pre) f t ((c .before .before .before .before .before .before .before .before .before .before .before .before .before .row) .ensures) ((c .before .before .before .before .before .before .before .before .before .before .before .lease-token-at) .ensures) ((c .before .before .before .before .before .before .before .before .if2) .left) ((c .before .before .before .before .before .if3) .left) ((c .before .before .if4) .left) }
+    let at-if5 = c .before .before in
+    let at-if4 = at-if5 .before in
+    let at-if3 = at-if4 .before .before .before in
+    let at-is-reserved = at-if3 .before .before .before in
+    let at-if2 = at-is-reserved .before .before .before .before in
+    let at-lease-token-at = at-if2 .before .before .before in
+    let at-if1 = at-lease-token-at .before in
+    let at-row = at-if1 .before in
+    let at-locate = at-row .before in
+    let at-clip = at-locate .before .before in
+    let start = at-clip .before .before .before .before .before .before .before .before in
+    let found = found-as _ (at-clip .clip .ensures) (at-locate .locate .ensures) in
+    let there = a-row found (at-row .row .ensures) (at-if1 .if1 .left) in
+    record { ready = (start .pre); found = found; there = there; row-is = (at-row .row) .ensures; read = (at-lease-token-at .lease-token-at) .ensures; taken = is-renewed (start .pre) found there (at-row .row .ensures) (at-lease-token-at .lease-token-at .ensures) (at-if2 .if2 .left) (at-if3 .if3 .left) (at-if4 .if4 .left) (at-is-reserved .is-reserved .ensures) (at-if5 .if5 .left) }
 
 same-length : tie.Need-same-length
 same-length c = search needs
@@ -56,8 +130,8 @@ same-length c = search needs
 same-length-2 : tie.Need-same-length-2
 same-length-2 c = search needs
 
-returns-5 : tie.Need-returns-5
-returns-5 c = search needs
+returns-6 : tie.Need-returns-6
+returns-6 c = search needs
 
 pub renew-lease-spec : {M : Type 1} → statement M
 renew-lease-spec =
@@ -72,11 +146,14 @@ renew-lease-spec =
     lease-token-at-requires
     refuse-requires-2
     returns-2
+    is-reserved-requires
     refuse-requires-3
     returns-3
     refuse-requires-4
     returns-4
+    refuse-requires-5
+    returns-5
     put-renewed-requires
     same-length
     same-length-2
-    returns-5)
+    returns-6)

@@ -15,16 +15,16 @@ use Rattle.reserved.proofs.any_located.Statement.{statement}
 use Rattle.reserved.proofs.any_located.Tie as tie
 
 abbrev Inv-loop : tie.InvT-loop
-Inv-loop codes s at n request set-at keys key i₀ p₀ last₀ stop₀ i p last stop = (any (locatedIn (codesOf codes) n (drop at s)) (set-of (drop set-at request)) ≡ any (locatedIn (codesOf codes) n (drop at s)) (texts-of (keys - i) (drop p request))) × Passed (codesOf codes) n (drop at s) (text-here (drop last request)) (stop .left) (drop (stop .at) s)
+Inv-loop codes s at n holder set-at keys key i₀ p₀ last₀ stop₀ i p last stop = (any (locatedIn (codesOf codes) n (drop at s)) (set-of (drop set-at holder)) ≡ any (locatedIn (codesOf codes) n (drop at s)) (texts-of (keys - i) (drop p holder))) × Passed (codesOf codes) n (drop at s) (text-here (drop last holder)) (stop .left) (drop (stop .at) s)
 
 abbrev μ-loop : tie.MeasureT-loop
-μ-loop codes s at n request set-at keys key i₀ p₀ last₀ stop₀ i p last stop = keys - i
+μ-loop codes s at n holder set-at keys key i₀ p₀ last₀ stop₀ i p last stop = keys - i
 
 returns : tie.Need-returns Inv-loop μ-loop
-returns c = sym (no-set (locatedIn (codesOf ((c .before .before .before .before .args) .codes .now)) ((c .before .before .before .before .args) .n) (drop ((c .before .before .before .before .args) .at) ((c .before .before .before .before .args) .s .now))) ((c .before .before .before .before .args) .request .now) ((c .before .before .before .before .args) .set-at) ((c .if1) .taken))
+returns c = sym (no-set (locatedIn (codesOf ((c .before .before .before .before .args) .codes .now)) ((c .before .before .before .before .args) .n) (drop ((c .before .before .before .before .args) .at) ((c .before .before .before .before .args) .s .now))) ((c .before .before .before .before .args) .holder .now) ((c .before .before .before .before .args) .set-at) ((c .if1) .taken))
 
 returns-2 : tie.Need-returns-2 Inv-loop μ-loop
-returns-2 c = sym (ap (λ (m : ℕ). any (locatedIn (codesOf ((c .before .before .before .before .before .args) .codes .now)) m (drop ((c .before .before .before .before .before .args) .at) ((c .before .before .before .before .before .args) .s .now))) (set-of (drop ((c .before .before .before .before .before .args) .set-at) ((c .before .before .before .before .before .args) .request .now)))) ((c .if2) .taken) ∙ any-none (codesOf ((c .before .before .before .before .before .args) .codes .now)) (drop ((c .before .before .before .before .before .args) .at) ((c .before .before .before .before .before .args) .s .now)) (set-of (drop ((c .before .before .before .before .before .args) .set-at) ((c .before .before .before .before .before .args) .request .now))))
+returns-2 c = sym (ap (λ (m : ℕ). any (locatedIn (codesOf ((c .before .before .before .before .before .args) .codes .now)) m (drop ((c .before .before .before .before .before .args) .at) ((c .before .before .before .before .before .args) .s .now))) (set-of (drop ((c .before .before .before .before .before .args) .set-at) ((c .before .before .before .before .before .args) .holder .now)))) ((c .if2) .taken) ∙ any-none (codesOf ((c .before .before .before .before .before .args) .codes .now)) (drop ((c .before .before .before .before .before .args) .at) ((c .before .before .before .before .before .args) .s .now)) (set-of (drop ((c .before .before .before .before .before .args) .set-at) ((c .before .before .before .before .before .args) .holder .now))))
 
 shared-slice-read-keys : tie.Need-shared-slice-read-keys Inv-loop μ-loop
 shared-slice-read-keys c = search needs
@@ -33,7 +33,7 @@ add-p : tie.Need-add-p Inv-loop μ-loop
 add-p c = search needs
 
 loop-holds : tie.Need-loop-holds Inv-loop μ-loop
-loop-holds c = (any-all (locatedIn (codesOf ((c .before .before .before .before .before .before .args) .codes .now)) ((c .before .before .before .before .before .before .args) .n) (drop ((c .before .before .before .before .before .before .args) .at) ((c .before .before .before .before .before .before .args) .s .now))) ((c .before .before .before .before .before .before .args) .request .now) ((c .before .before .before .before .before .before .args) .set-at) ((c .before .before .if1) .left), passed-none (codesOf ((c .before .before .before .before .before .before .args) .codes .now)) ((c .before .before .before .before .before .before .args) .n) (drop ((c .before .before .before .before .before .before .args) .at) ((c .before .before .before .before .before .before .args) .s .now)) (text-here (drop (((c .before .before .before .before .before .before .args) .set-at) + 1) ((c .before .before .before .before .before .before .args) .request .now))))
+loop-holds c = (any-all (locatedIn (codesOf ((c .before .before .before .before .before .before .args) .codes .now)) ((c .before .before .before .before .before .before .args) .n) (drop ((c .before .before .before .before .before .before .args) .at) ((c .before .before .before .before .before .before .args) .s .now))) ((c .before .before .before .before .before .before .args) .holder .now) ((c .before .before .before .before .before .before .args) .set-at) ((c .before .before .if1) .left), passed-none (codesOf ((c .before .before .before .before .before .before .args) .codes .now)) ((c .before .before .before .before .before .before .args) .n) (drop ((c .before .before .before .before .before .before .args) .at) ((c .before .before .before .before .before .before .args) .s .now)) (text-here (drop (((c .before .before .before .before .before .before .args) .set-at) + 1) ((c .before .before .before .before .before .before .args) .holder .now))))
 
 text-at-requires : tie.Need-text-at-requires Inv-loop μ-loop
 text-at-requires c κs = search needs
@@ -45,7 +45,7 @@ resume-requires : tie.Need-resume-requires Inv-loop μ-loop
 resume-requires c κs = passed-same (codesOf ((c .before .before .before .before .before .before .before .before .before .before .args) .codes .now)) ((c .before .before .before .before .before .before .before .before .before .before .args) .n) (drop ((c .before .before .before .before .before .before .before .before .before .before .args) .at) ((c .before .before .before .before .before .before .before .before .before .before .args) .s .now)) _ _ _ _ (sym ((c .before .text-at) .ensures)) ((c .before .before .before .loop) .inv .1)
 
 returns-3 : tie.Need-returns-3 Inv-loop μ-loop
-returns-3 c = sym ((c .before .before .before .before .before .loop) .inv .0 ∙ any-on (locatedIn (codesOf ((c .before .before .before .before .before .before .before .before .before .before .before .before .args) .codes .now)) ((c .before .before .before .before .before .before .before .before .before .before .before .before .args) .n) (drop ((c .before .before .before .before .before .before .before .before .before .before .before .before .args) .at) ((c .before .before .before .before .before .before .before .before .before .before .before .before .args) .s .now))) ((c .before .before .before .before .before .before .before .before .before .before .before .before .args) .request .now) _ ((c .before .before .before .before .before .loop) .i) ((c .before .before .before .before .before .loop) .p) _ true ((c .before .before .before .before .loop-test) .taken) (ap (locatedIn (codesOf ((c .before .before .before .before .before .before .before .before .before .before .before .before .args) .codes .now)) ((c .before .before .before .before .before .before .before .before .before .before .before .before .args) .n) (drop ((c .before .before .before .before .before .before .before .before .before .before .before .before .args) .at) ((c .before .before .before .before .before .before .before .before .before .before .before .before .args) .s .now))) (sym ((c .before .before .text-at2) .ensures)) ∙ sym ((c .before .resume) .ensures .0) ∙ (c .if3) .taken) refl)
+returns-3 c = sym ((c .before .before .before .before .before .loop) .inv .0 ∙ any-on (locatedIn (codesOf ((c .before .before .before .before .before .before .before .before .before .before .before .before .args) .codes .now)) ((c .before .before .before .before .before .before .before .before .before .before .before .before .args) .n) (drop ((c .before .before .before .before .before .before .before .before .before .before .before .before .args) .at) ((c .before .before .before .before .before .before .before .before .before .before .before .before .args) .s .now))) ((c .before .before .before .before .before .before .before .before .before .before .before .before .args) .holder .now) _ ((c .before .before .before .before .before .loop) .i) ((c .before .before .before .before .before .loop) .p) _ true ((c .before .before .before .before .loop-test) .taken) (ap (locatedIn (codesOf ((c .before .before .before .before .before .before .before .before .before .before .before .before .args) .codes .now)) ((c .before .before .before .before .before .before .before .before .before .before .before .before .args) .n) (drop ((c .before .before .before .before .before .before .before .before .before .before .before .before .args) .at) ((c .before .before .before .before .before .before .before .before .before .before .before .before .args) .s .now))) (sym ((c .before .before .text-at2) .ensures)) ∙ sym ((c .before .resume) .ensures .0) ∙ (c .if3) .taken) refl)
 
 slice-aggregate-skip-record : tie.Need-slice-aggregate-skip-record Inv-loop μ-loop
 slice-aggregate-skip-record c = search needs
@@ -60,10 +60,10 @@ loop-less : tie.Need-loop-less Inv-loop μ-loop
 loop-less c = search needs
 
 loop-again : tie.Need-loop-again Inv-loop μ-loop
-loop-again c = ((c .before .before .before .before .before .before .before .loop) .inv .0 ∙ any-on (locatedIn (codesOf ((c .before .before .before .before .before .before .before .before .before .before .before .before .before .before .args) .codes .now)) ((c .before .before .before .before .before .before .before .before .before .before .before .before .before .before .args) .n) (drop ((c .before .before .before .before .before .before .before .before .before .before .before .before .before .before .args) .at) ((c .before .before .before .before .before .before .before .before .before .before .before .before .before .before .args) .s .now))) ((c .before .before .before .before .before .before .before .before .before .before .before .before .before .before .args) .request .now) _ ((c .before .before .before .before .before .before .before .loop) .i) ((c .before .before .before .before .before .before .before .loop) .p) _ false ((c .before .before .before .before .before .before .loop-test) .taken) (ap (locatedIn (codesOf ((c .before .before .before .before .before .before .before .before .before .before .before .before .before .before .args) .codes .now)) ((c .before .before .before .before .before .before .before .before .before .before .before .before .before .before .args) .n) (drop ((c .before .before .before .before .before .before .before .before .before .before .before .before .before .before .args) .at) ((c .before .before .before .before .before .before .before .before .before .before .before .before .before .before .args) .s .now))) (sym ((c .before .before .before .before .text-at2) .ensures)) ∙ sym ((c .before .before .before .resume) .ensures .0) ∙ (c .before .before .if3) .left) ((c .skip-record) .ensures), passed-same (codesOf ((c .before .before .before .before .before .before .before .before .before .before .before .before .before .before .args) .codes .now)) ((c .before .before .before .before .before .before .before .before .before .before .before .before .before .before .args) .n) (drop ((c .before .before .before .before .before .before .before .before .before .before .before .before .before .before .args) .at) ((c .before .before .before .before .before .before .before .before .before .before .before .before .before .before .args) .s .now)) _ _ _ _ ((c .before .before .before .before .text-at2) .ensures) ((c .before .before .before .resume) .ensures .1))
+loop-again c = ((c .before .before .before .before .before .before .before .loop) .inv .0 ∙ any-on (locatedIn (codesOf ((c .before .before .before .before .before .before .before .before .before .before .before .before .before .before .args) .codes .now)) ((c .before .before .before .before .before .before .before .before .before .before .before .before .before .before .args) .n) (drop ((c .before .before .before .before .before .before .before .before .before .before .before .before .before .before .args) .at) ((c .before .before .before .before .before .before .before .before .before .before .before .before .before .before .args) .s .now))) ((c .before .before .before .before .before .before .before .before .before .before .before .before .before .before .args) .holder .now) _ ((c .before .before .before .before .before .before .before .loop) .i) ((c .before .before .before .before .before .before .before .loop) .p) _ false ((c .before .before .before .before .before .before .loop-test) .taken) (ap (locatedIn (codesOf ((c .before .before .before .before .before .before .before .before .before .before .before .before .before .before .args) .codes .now)) ((c .before .before .before .before .before .before .before .before .before .before .before .before .before .before .args) .n) (drop ((c .before .before .before .before .before .before .before .before .before .before .before .before .before .before .args) .at) ((c .before .before .before .before .before .before .before .before .before .before .before .before .before .before .args) .s .now))) (sym ((c .before .before .before .before .text-at2) .ensures)) ∙ sym ((c .before .before .before .resume) .ensures .0) ∙ (c .before .before .if3) .left) ((c .skip-record) .ensures), passed-same (codesOf ((c .before .before .before .before .before .before .before .before .before .before .before .before .before .before .args) .codes .now)) ((c .before .before .before .before .before .before .before .before .before .before .before .before .before .before .args) .n) (drop ((c .before .before .before .before .before .before .before .before .before .before .before .before .before .before .args) .at) ((c .before .before .before .before .before .before .before .before .before .before .before .before .before .before .args) .s .now)) _ _ _ _ ((c .before .before .before .before .text-at2) .ensures) ((c .before .before .before .resume) .ensures .1))
 
 returns-4 : tie.Need-returns-4 Inv-loop μ-loop
-returns-4 c = sym ((c .before .loop) .inv .0 ∙ any-end (locatedIn (codesOf ((c .before .before .before .before .before .before .before .before .args) .codes .now)) ((c .before .before .before .before .before .before .before .before .args) .n) (drop ((c .before .before .before .before .before .before .before .before .args) .at) ((c .before .before .before .before .before .before .before .before .args) .s .now))) ((c .before .before .before .before .before .before .before .before .args) .request .now) _ ((c .before .loop) .i) ((c .before .loop) .p) ((c .loop-test) .left))
+returns-4 c = sym ((c .before .loop) .inv .0 ∙ any-end (locatedIn (codesOf ((c .before .before .before .before .before .before .before .before .args) .codes .now)) ((c .before .before .before .before .before .before .before .before .args) .n) (drop ((c .before .before .before .before .before .before .before .before .args) .at) ((c .before .before .before .before .before .before .before .before .args) .s .now))) ((c .before .before .before .before .before .before .before .before .args) .holder .now) _ ((c .before .loop) .i) ((c .before .loop) .p) ((c .loop-test) .left))
 
 pub any-located-spec : {M : Type 1} → statement M
 any-located-spec =

@@ -1,7 +1,7 @@
-use Rattle.intents.proofs.Steps.{tested}
+use Rattle.reserved.proofs.Steps.{tested}
 use borrow.Author.Needs.{needs}
-use Rattle.intents.proofs.is_reserved.Statement.{statement}
-use Rattle.intents.proofs.is_reserved.Tie as tie
+use Rattle.reserved.proofs.is_reserved.Statement.{statement}
+use Rattle.reserved.proofs.is_reserved.Tie as tie
 
 returns : tie.Need-returns
 returns c = search needs
@@ -13,7 +13,7 @@ any-located-requires : tie.Need-any-located-requires
 any-located-requires c κs = search needs
 
 returns-2 : tie.Need-returns-2
-returns-2 c = tested ((c .before .before .before .before .before .args) .ignore) _ _ _ _ ((c .before .before .if1) .left) ((c .any-located) .ensures)
+returns-2 c = let a = c .before .before .before .before .before .args in tested (a .ignore) _ (a .image .now) (a .reservations) _ ((c .before .before .if1) .left) ((c .any-located) .ensures)
 
 pub is-reserved-spec : {M : Type 1} → statement M
 is-reserved-spec =
