@@ -17,7 +17,7 @@
 extern "C" {
 #endif
 
-/* Of every call: a refusal before the Rust's, or after it has accepted. */
+/* Of every call: a refusal before those of okv_status, or after none of them has come. */
 enum okv_refusal {
     /* the state bytes are not an image within the layout and its limits */
     OKV_NOT_AN_IMAGE = 40,
@@ -27,7 +27,7 @@ enum okv_refusal {
     OKV_OVER_LIMIT = 42,
     /* a text is not UTF-8 */
     OKV_NOT_UTF8 = 43,
-    /* the Rust accepts, and a table of the next state is over its limit */
+    /* no okv_status refuses, and a table of the next state is over its limit */
     OKV_TABLE_FULL = 44,
     /* the next image is longer than 65,535 bytes or than its lent slice */
     OKV_NO_ROOM = 45,

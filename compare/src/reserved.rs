@@ -176,6 +176,9 @@ impl Gen {
                 *new_deadline_tick = late.unwrap_or(*new_deadline_tick);
                 state.leases.entry(lease_id.clone()).and_modify(|lease| lease.closure = wanted);
             }
+            PublicationAction::ReleaseLease { lease_id, .. } => {
+                state.leases.entry(lease_id.clone()).and_modify(|lease| lease.closure = wanted);
+            }
             _ => {}
         }
         (state, request)

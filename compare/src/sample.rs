@@ -1,5 +1,6 @@
 //! A data file for a program that calls `apply`, `validate_active_snapshot_lease` and `test_image` and holds their
-//! answers to those of the Rust: some hundreds of calls that together have every answer there is.
+//! answers to those of the Rust, as document 02 changes them: some hundreds of calls that together have every answer
+//! there is.
 //!
 //! `stdin` is a sequence of cases, numbers little-endian of 4 bytes, each after a byte that says what it is:
 //!

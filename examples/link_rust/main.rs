@@ -1,7 +1,8 @@
 //! Steps the authority through libokv.a by the frames of standard input, which `tools/okv frames SCRIPT` writes. Prints
 //! a line for each frame: its step, the number answered, the lengths of image and outcome, what validation says of the
 //! newest lease token (41 while there is none), and the leases that ended, in the order in which they ran out. Writes the
-//! last image and outcome to the two files that its arguments name.
+//! last image and outcome to the two files that its arguments name. A third argument names an image to begin with, in
+//! place of the default one.
 use std::io::Read;
 
 /// The functions of include/okv.h over slices. An error is the number of the refusal.
@@ -65,9 +66,15 @@ fn number<T>(answer: Result<T, u32>) -> u32 {
 }
 
 fn main() -> std::io::Result<()> {
+    let mut paths = std::env::args().skip(1);
+    let image_path = paths.next().expect("a path for the image");
+    let outcome_path = paths.next().expect("a path for the outcome");
     let (mut next, mut outcome) = (vec![0; 65535], vec![0; 8192]);
     let length = okv::default(&mut next).expect("room for the default image");
     let (mut image, mut last, mut token) = (next[..length].to_vec(), vec![], vec![]);
+    if let Some(path) = paths.next() {
+        image = std::fs::read(path)?;
+    }
     assert_eq!(okv::test(&image), Ok(()));
     let mut input = vec![];
     std::io::stdin().read_to_end(&mut input)?;
@@ -87,7 +94,6 @@ fn main() -> std::io::Result<()> {
         let numbers = format!("{step} {} {n} {m} {}", number(answer), number(okv::validate(&image, &token)));
         println!("{}", [vec![numbers], ended(&outcome[..m])].concat().join(" "));
     }
-    let mut paths = std::env::args().skip(1);
-    std::fs::write(paths.next().expect("a path for the image"), image)?;
-    std::fs::write(paths.next().expect("a path for the outcome"), last)
+    std::fs::write(image_path, image)?;
+    std::fs::write(outcome_path, last)
 }

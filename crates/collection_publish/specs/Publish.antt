@@ -12,7 +12,7 @@ use Rattle.text.specs.Same.{sameOf}
 use Rattle.parts.specs.Digits.{digits}
 use Rattle.parts.specs.DigitLaws.{length-digits}
 use Rattle.parts.specs.Gather.{run, gatherOf}
-use Rattle.state.specs.Maps.{Text, _⟼_, same, same-option, has-key, any, lookup, insert, remove}
+use Rattle.state.specs.Maps.{Text, _⟼_, same, same-option, lookup, insert, remove}
 use Rattle.state.specs.Places.{ahead, at, behind}
 use Rattle.state.specs.Records.{State, ObjectReference, CollectionJobToken, CollectionReceipt, reference-eq, job-eq, valid-receipt}
 use Rattle.state.specs.Setters.{set-revision}
@@ -31,6 +31,7 @@ use Rattle.image.specs.Stored.{roots-stored, jobs-stored}
 use Rattle.image.specs.declared.Table.{Table}
 use Rattle.image.specs.declared.Contents.{Contents}
 use Rattle.machine.specs.Actions.{rejected, CollectionPublished}
+use Rattle.machine.specs.Machine.{any-reserved}
 use Rattle.machine.specs.Next.{collection-published}
 use Rattle.requests.specs.Meaning.{receiptOf, contextOf, faultsOf, positionOf, requestOf}
 use Rattle.requests.specs.declared.AuthorityContext.{AuthorityContext as ContextAt}
@@ -216,7 +217,7 @@ module _ {x q : List ℕ} {c : Contents} {y : ContextAt} {g : FaultsAt} {a : Rec
         (cond (reserved-here s x (pre .image-is) (pre .formed) (contentsOf s) refl (receipt .object-keys) i) 10 0))))
         ∙ ap (or-else (cond (not (valid-receipt receipt)) 2 (cond (reference-eq output input) 2 (cond missing 30 (cond (not equal) 35 (cond T₆ 6 0))))))
         (stale-tests T₂₈ (T₃₆ (s .collection-root)) T₃₄
-        (cond (T₇ (same-option reference-eq (lookup root (s .roots)) (some input))) 7 (cond (any (λ k. has-key k (s .deletion-reservations)) (receipt .object-keys)) 10 0)))
+        (cond (T₇ (same-option reference-eq (lookup root (s .roots)) (some input))) 7 (cond (any-reserved s (receipt .object-keys)) 10 0)))
         ∙ five-tests (not (valid-receipt receipt)) (reference-eq output input) missing (not equal) T₆ _
 
     pub publish-ruled : ruled pre ≡ told (publishRefusal x c q y g a) (published s receipt (contextOf y) (faultsOf g))

@@ -4,11 +4,11 @@ use mathlib.Core.Bool.{Bool, true, false, not, cond, _&&_}
 use mathlib.Core.Option.{Option, none, some}
 use mathlib.Core.Path.{_≡_, refl, sym, ap, _∙_}
 use lib.Dec.{eqb}
-use Rattle.state.specs.Maps.{same, same-option, has-key, any, lookup}
+use Rattle.state.specs.Maps.{same, same-option, lookup}
 use Rattle.state.specs.Records.{State, AuthorityContext, PublicationAuthorityFaults, CollectionJobToken, CollectionReceipt, reference-eq, job-eq, valid-receipt}
 use Rattle.state.specs.RecordLaws.{job-sound, job-refl}
 use Rattle.machine.specs.Actions.{PublishCollection, Transition, accepted, Rule, refuse-or, find-or, accept, decide, CollectionPublished}
-use Rattle.machine.specs.Machine.{act, publish-collection}
+use Rattle.machine.specs.Machine.{act, publish-collection, any-reserved}
 use Rattle.machine.specs.Next.{collection-published}
 use Rattle.collection_jobs.specs.Rules.{told, step, end}
 
@@ -25,7 +25,7 @@ module _ (s : State) (r : CollectionReceipt) (y : AuthorityContext) (g : Publica
       (refuse-or 36 (not (same-option same (s .collection-root) (some (v .destination-root))))
       (refuse-or 34 (not (eqb (v .expected-collected-through) (s .physically-collected-through)))
       (refuse-or 7 (not (g .ignore-collection-input-root) && not (same-option reference-eq (lookup (v .destination-root) (s .roots)) (some (v .input-manifest))))
-      (refuse-or 10 (any (λ key. has-key key (s .deletion-reservations)) (r .object-keys))
+      (refuse-or 10 (any-reserved s (r .object-keys))
       (accept (collection-published s v (r .output-manifest)) (CollectionPublished r))))))))
 
   abbrev pub rest-number : ℕ
@@ -35,7 +35,7 @@ module _ (s : State) (r : CollectionReceipt) (y : AuthorityContext) (g : Publica
       (cond (not (same-option same (s .collection-root) (some (t .destination-root)))) 36
       (cond (not (eqb (t .expected-collected-through) (s .physically-collected-through))) 34
       (cond (not (g .ignore-collection-input-root) && not (same-option reference-eq (lookup (t .destination-root) (s .roots)) (some (t .input-manifest)))) 7
-      (cond (any (λ key. has-key key (s .deletion-reservations)) (r .object-keys)) 10 0)))))
+      (cond (any-reserved s (r .object-keys)) 10 0)))))
 
   abbrev pub published : Transition
   published = accepted (collection-published s t (r .output-manifest)) (CollectionPublished r)
@@ -48,7 +48,7 @@ module _ (s : State) (r : CollectionReceipt) (y : AuthorityContext) (g : Publica
       (step 35 (not (same-option same (s .collection-root) (some (t .destination-root)))) _ _ _
       (step 33 (not (eqb (t .expected-collected-through) (s .physically-collected-through))) _ _ _
       (step 6 (not (g .ignore-collection-input-root) && not (same-option reference-eq (lookup (t .destination-root) (s .roots)) (some (t .input-manifest)))) _ _ _
-      (step 9 (any (λ key. has-key key (s .deletion-reservations)) (r .object-keys)) _ _ _
+      (step 9 (any-reserved s (r .object-keys)) _ _ _
       (end (collection-published s t (r .output-manifest)) (CollectionPublished r))))))))
 
   found-tests : (v : CollectionJobToken) (b : Bool) → job-eq v t ≡ b → decide (tested v) ≡ told (cond (not b) 35 rest-number) published
@@ -61,7 +61,7 @@ module _ (s : State) (r : CollectionReceipt) (y : AuthorityContext) (g : Publica
       (refuse-or 36 (not (same-option same (s .collection-root) (some (v .destination-root))))
       (refuse-or 34 (not (eqb (v .expected-collected-through) (s .physically-collected-through)))
       (refuse-or 7 (not (g .ignore-collection-input-root) && not (same-option reference-eq (lookup (v .destination-root) (s .roots)) (some (v .input-manifest))))
-      (refuse-or 10 (any (λ key. has-key key (s .deletion-reservations)) (r .object-keys))
+      (refuse-or 10 (any-reserved s (r .object-keys))
       (accept (collection-published s v (r .output-manifest)) (CollectionPublished r)))))))))) h
 
   module _ (missing equal : Bool) (absent : missing ≡ true → lookup (t .job-id) (s .collection-jobs) ≡ none)

@@ -8,7 +8,7 @@ use lib.ListN.{length, drop, length-append, length-drop}
 use Rattle.parts.specs.Digits.{digits}
 use Rattle.parts.specs.DigitLaws.{length-digits}
 use Rattle.parts.specs.Gather.{run, gatherOf}
-use Rattle.state.specs.Maps.{Text, _⟼_, has-key, any, insert}
+use Rattle.state.specs.Maps.{Text, _⟼_, insert}
 use Rattle.state.specs.Records.{State, PreparedPublication}
 use Rattle.state.specs.Setters.{set-revision}
 use Rattle.fields.specs.Format.{enc, enc-text, all}
@@ -20,6 +20,7 @@ use Rattle.image.specs.Tables.{intent-row}
 use Rattle.image.specs.ImageParts.{from-intents}
 use Rattle.image.specs.declared.Table.{Table}
 use Rattle.image.specs.declared.Contents.{Contents}
+use Rattle.machine.specs.Machine.{any-reserved}
 use Rattle.machine.specs.Next.{intent-prepared}
 use Rattle.requests.specs.Meaning.{textOf, intentOf, keysOf, positionOf}
 use Rattle.requests.specs.declared.AuthorityContext.{AuthorityContext as ContextAt}
@@ -63,7 +64,7 @@ module _ {x : List ℕ} {c : Contents} {q : List ℕ} {ctx : ContextAt} {f : Fau
   name-run = run-to q (enc-text name) intent-bytes 27 (length name + 1) asked (omega arith)
 
   pub reserved-is : (b : Bool) → b ≡ (not (f .«ignore_delete_reservation») && reservedIn x (c .reservations) (keysOf q (a .intent .«object_keys»)))
-      → b ≡ (not (f .«ignore_delete_reservation») && any (λ key. has-key key (st .deletion-reservations)) (keysOf q (a .intent .«object_keys»)))
+      → b ≡ (not (f .«ignore_delete_reservation») && any-reserved st (keysOf q (a .intent .«object_keys»)))
   reserved-is b h = h ∙ ap (λ (t : Bool). not (f .«ignore_delete_reservation») && t) (reserved-here st x (ready .image-is) (ready .formed) c (ready .opened) (keysOf q (a .intent .«object_keys»)))
 
   module _ (id : List ℕ) (e : id ≡ name) (place : Place) (found : place ≡ placed x (seek (codesOf intent-code-list) (c .intents .count) id (drop (c .intents .at) x))) where

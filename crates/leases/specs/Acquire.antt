@@ -251,17 +251,17 @@ module _ {x : List ℕ} {c : Contents} {q : List ℕ} {a : ContextAt} {f : Fault
                 acquire-past s id (textOf q (l .«tenant_id»)) (l .«snapshot_version») (textOf q (l .owner)) (textOf q (l .purpose)) (l .«deadline_tick») (closureOf q (l .closure)) (contextOf a) (faultsOf f)
                 (sym i ∙ valid) (sym window-is ∙ sym j ∙ set) unused (sym below-is ∙ sym t ∙ above) (omega (arith, committed, frontier-is)) (sym past-is ∙ h)
 
-            module _ (later : leb (l .«deadline_tick») (c .scalars .«lease_clock_tick») ≡ false) {named : Bool} (n : named ≡ reservedIn x (c .reservations) (keysOf q (l .closure .«object_keys»))) where
-              reserved-is : named ≡ any-reserved s (keysOf q (l .closure .«object_keys»))
+            module _ (later : leb (l .«deadline_tick») (c .scalars .«lease_clock_tick») ≡ false) {names-reserved : Bool} (n : names-reserved ≡ reservedIn x (c .reservations) (keysOf q (l .closure .«object_keys»))) where
+              reserved-is : names-reserved ≡ any-reserved s (keysOf q (l .closure .«object_keys»))
               reserved-is = n ∙ reserved-here s x (ready .image-is) (ready .formed) c (ready .opened) (keysOf q (l .closure .«object_keys»))
 
-              pub is-reserved : named ≡ true → ruled ready ≡ rejected 10
+              pub is-reserved : names-reserved ≡ true → ruled ready ≡ rejected 10
               unfolding invalidOf
               is-reserved h =
                   acquire-reserved s id (textOf q (l .«tenant_id»)) (l .«snapshot_version») (textOf q (l .owner)) (textOf q (l .purpose)) (l .«deadline_tick») (closureOf q (l .closure)) (contextOf a) (faultsOf f)
                   (sym i ∙ valid) (sym window-is ∙ sym j ∙ set) unused (sym below-is ∙ sym t ∙ above) (omega (arith, committed, frontier-is)) (sym past-is ∙ later) (sym reserved-is ∙ h)
 
-              pub is-taken : named ≡ false → ruled ready ≡ accepted (acquired s id new (f .«omit_lease_root_epoch»)) (LeaseAcquired new)
+              pub is-taken : names-reserved ≡ false → ruled ready ≡ accepted (acquired s id new (f .«omit_lease_root_epoch»)) (LeaseAcquired new)
               unfolding invalidOf
               is-taken h =
                   acquire-taken s id (textOf q (l .«tenant_id»)) (l .«snapshot_version») (textOf q (l .owner)) (textOf q (l .purpose)) (l .«deadline_tick») (closureOf q (l .closure)) (contextOf a) (faultsOf f)

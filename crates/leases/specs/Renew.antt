@@ -7,7 +7,7 @@ use mathlib.Core.Option.{none, some}
 use mathlib.Core.Path.{_≡_, sym, ap, _∙_, subst}
 use lib.ListN.{length, drop}
 use lib.Dec.{eqb, leb}
-use borrow.Author.Tests.{eq-eqb, ne-eqb, le-leb, lt-leb}
+use borrow.Author.Tests.{eq-eqb, ne-eqb}
 use Rattle.parts.specs.Gather.{gatherOf, run}
 use Rattle.state.specs.Maps.{Text, _⟼_, lookup, insert}
 use Rattle.state.specs.Places.{at, behind as rows-behind}
@@ -69,24 +69,24 @@ module _ (s : State) (id : Text) (epoch deadline : ℕ) (x : AuthorityContext) (
     renew-mismatch k = found-then 22 (lookup id (s .leases)) at-found v h ∙ simp (ne-eqb (v .lease-epoch) epoch k)
 
     module _ (k : v .lease-epoch ≡ epoch) where
-      pub renew-past : deadline ≤ s .lease-clock-tick → ruling ≡ rejected 24
+      pub renew-past : leb deadline (s .lease-clock-tick) ≡ true → ruling ≡ rejected 24
       unfolding act renew-lease decide at-found
-      renew-past d = found-then 22 (lookup id (s .leases)) at-found v h ∙ simp (eq-eqb (v .lease-epoch) epoch k, le-leb deadline (s .lease-clock-tick) d)
+      renew-past d = found-then 22 (lookup id (s .leases)) at-found v h ∙ simp (eq-eqb (v .lease-epoch) epoch k, d)
 
-      module _ (d : s .lease-clock-tick < deadline) where
-        pub renew-sooner : deadline ≤ v .deadline-tick → ruling ≡ rejected 24
+      module _ (d : leb deadline (s .lease-clock-tick) ≡ false) where
+        pub renew-sooner : leb deadline (v .deadline-tick) ≡ true → ruling ≡ rejected 24
         unfolding act renew-lease decide at-found
-        renew-sooner l = found-then 22 (lookup id (s .leases)) at-found v h ∙ simp (eq-eqb (v .lease-epoch) epoch k, lt-leb deadline (s .lease-clock-tick) d, le-leb deadline (v .deadline-tick) l)
+        renew-sooner l = found-then 22 (lookup id (s .leases)) at-found v h ∙ simp (eq-eqb (v .lease-epoch) epoch k, d, l)
 
-        module _ (l : v .deadline-tick < deadline) where
+        module _ (l : leb deadline (v .deadline-tick) ≡ false) where
           pub renew-reserved : any-reserved s (v .closure .object-keys) ≡ true → ruling ≡ rejected 10
           unfolding act renew-lease decide at-found
-          renew-reserved n = found-then 22 (lookup id (s .leases)) at-found v h ∙ simp (eq-eqb (v .lease-epoch) epoch k, lt-leb deadline (s .lease-clock-tick) d, lt-leb deadline (v .deadline-tick) l, n)
+          renew-reserved n = found-then 22 (lookup id (s .leases)) at-found v h ∙ simp (eq-eqb (v .lease-epoch) epoch k, d, l, n)
 
           pub renew-taken : any-reserved s (v .closure .object-keys) ≡ false
               → ruling ≡ accepted (renewed s id (renewed-lease s v deadline x) (g .omit-lease-root-epoch)) (LeaseRenewed (renewed-lease s v deadline x))
           unfolding act renew-lease decide at-found
-          renew-taken n = found-then 22 (lookup id (s .leases)) at-found v h ∙ simp (eq-eqb (v .lease-epoch) epoch k, lt-leb deadline (s .lease-clock-tick) d, lt-leb deadline (v .deadline-tick) l, n)
+          renew-taken n = found-then 22 (lookup id (s .leases)) at-found v h ∙ simp (eq-eqb (v .lease-epoch) epoch k, d, l, n)
 
 -- what the code has computed by the end
 module _ (s : State) (x q : List ℕ) (e : encodeImage s ≡ x) (a : ContextAt) (id : Text) (token : SnapshotLeaseToken) (omit : Bool) where
@@ -116,8 +116,8 @@ module _ {x : List ℕ} {c : Contents} {q : List ℕ} {a : ContextAt} {f : Fault
     abbrev id : Text
     id = textOf q (l .«lease_id»)
 
-    clock-is : c .scalars .«lease_clock_tick» ≡ s .lease-clock-tick
-    clock-is = ap (λ (d : Contents). d .scalars .«lease_clock_tick») (ready .opened)
+    past-is : leb (l .«new_deadline_tick») (c .scalars .«lease_clock_tick») ≡ leb (l .«new_deadline_tick») (s .lease-clock-tick)
+    past-is = ap (λ (d : Contents). leb (l .«new_deadline_tick») (d .scalars .«lease_clock_tick»)) (ready .opened)
 
     pub none-held : place .end ≤ place .start → ruled ready ≡ rejected 22
     none-held h = renew-missing s id (l .«expected_lease_epoch») (l .«new_deadline_tick») (contextOf a) (faultsOf f) (missing s x (ready .image-is) (ready .formed) c (ready .opened) id place found h .1)
@@ -142,40 +142,40 @@ module _ {x : List ℕ} {c : Contents} {q : List ℕ} {a : ContextAt} {f : Fault
         epoch-is : now .«lease_epoch» ≡ stands .0 .lease-epoch
         epoch-is = ap (λ (t : SnapshotLeaseToken). t .lease-epoch) means
 
-        deadline-is : now .«deadline_tick» ≡ stands .0 .deadline-tick
-        deadline-is = ap (λ (t : SnapshotLeaseToken). t .deadline-tick) means
+        no-later-is : leb (l .«new_deadline_tick») (now .«deadline_tick») ≡ leb (l .«new_deadline_tick») (stands .0 .deadline-tick)
+        no-later-is = ap (λ (t : SnapshotLeaseToken). leb (l .«new_deadline_tick») (t .deadline-tick)) means
 
         pub other-epoch : (now .«lease_epoch» ≡ l .«expected_lease_epoch» → ⊥) → ruled ready ≡ rejected 23
         other-epoch h = renew-mismatch s id (l .«expected_lease_epoch») (l .«new_deadline_tick») (contextOf a) (faultsOf f) (stands .0) (stands .2) (λ k. h (epoch-is ∙ k))
 
         module _ (same : now .«lease_epoch» ≡ l .«expected_lease_epoch») where
-          pub not-later : l .«new_deadline_tick» ≤ c .scalars .«lease_clock_tick» → ruled ready ≡ rejected 24
-          not-later h =
+          pub is-past : leb (l .«new_deadline_tick») (c .scalars .«lease_clock_tick») ≡ true → ruled ready ≡ rejected 24
+          is-past h =
               renew-past s id (l .«expected_lease_epoch») (l .«new_deadline_tick») (contextOf a) (faultsOf f) (stands .0) (stands .2) (sym epoch-is ∙ same)
-              (omega (arith, h, clock-is))
+              (sym past-is ∙ h)
 
-          module _ (later : c .scalars .«lease_clock_tick» < l .«new_deadline_tick») where
-            pub no-longer : l .«new_deadline_tick» ≤ now .«deadline_tick» → ruled ready ≡ rejected 24
-            no-longer h =
+          module _ (ahead : leb (l .«new_deadline_tick») (c .scalars .«lease_clock_tick») ≡ false) where
+            pub is-no-later : leb (l .«new_deadline_tick») (now .«deadline_tick») ≡ true → ruled ready ≡ rejected 24
+            is-no-later h =
                 renew-sooner s id (l .«expected_lease_epoch») (l .«new_deadline_tick») (contextOf a) (faultsOf f) (stands .0) (stands .2) (sym epoch-is ∙ same)
-                (omega (arith, later, clock-is)) (omega (arith, h, deadline-is))
+                (sym past-is ∙ ahead) (sym no-later-is ∙ h)
 
-            module _ (longer : now .«deadline_tick» < l .«new_deadline_tick») {named : Bool} (n : named ≡ reservedIn x (c .reservations) (keysOf row (now .closure .«object_keys»))) where
-              reserved-is : named ≡ any-reserved s (stands .0 .closure .object-keys)
+            module _ (later : leb (l .«new_deadline_tick») (now .«deadline_tick») ≡ false) {names-reserved : Bool} (n : names-reserved ≡ reservedIn x (c .reservations) (keysOf row (now .closure .«object_keys»))) where
+              reserved-is : names-reserved ≡ any-reserved s (stands .0 .closure .object-keys)
               reserved-is =
                   n ∙ reserved-here s x (ready .image-is) (ready .formed) c (ready .opened) (keysOf row (now .closure .«object_keys»))
                   ∙ ap (λ (t : SnapshotLeaseToken). any-reserved s (t .closure .object-keys)) means
 
-              pub is-reserved : named ≡ true → ruled ready ≡ rejected 10
+              pub is-reserved : names-reserved ≡ true → ruled ready ≡ rejected 10
               is-reserved h =
                   renew-reserved s id (l .«expected_lease_epoch») (l .«new_deadline_tick») (contextOf a) (faultsOf f) (stands .0) (stands .2) (sym epoch-is ∙ same)
-                  (omega (arith, later, clock-is)) (omega (arith, longer, deadline-is)) (sym reserved-is ∙ h)
+                  (sym past-is ∙ ahead) (sym no-later-is ∙ later) (sym reserved-is ∙ h)
 
-              pub is-renewed : named ≡ false → ruled ready ≡ accepted (renewed s id token (f .«omit_lease_root_epoch»)) (LeaseRenewed token)
+              pub is-renewed : names-reserved ≡ false → ruled ready ≡ accepted (renewed s id token (f .«omit_lease_root_epoch»)) (LeaseRenewed token)
               unfolding token
               is-renewed h =
                   renew-taken s id (l .«expected_lease_epoch») (l .«new_deadline_tick») (contextOf a) (faultsOf f) (stands .0) (stands .2) (sym epoch-is ∙ same)
-                  (omega (arith, later, clock-is)) (omega (arith, longer, deadline-is)) (sym reserved-is ∙ h)
+                  (sym past-is ∙ ahead) (sym no-later-is ∙ later) (sym reserved-is ∙ h)
 
 -- the acceptance that is left to be written
 pub record Renewing (x : List ℕ) (c : Contents) (q : List ℕ) (a : ContextAt) (f : FaultsAt) (l : RenewLeaseAt) (place : Place) (row : List ℕ) (now : LeaseTokenAt) : Type 0 where

@@ -292,11 +292,11 @@ pub fn acquire_lease(
     let closure = a.closure;
     let keys = closure.object_keys;
     let late = a.deadline_tick <= n.lease_clock_tick;
-    let named = reserved::is_reserved(false, image, reservations, request, keys.at);
+    let names_reserved = reserved::is_reserved(false, image, reservations, request, keys.at);
     if late {
         return parts::refuse(24);
     }
-    if named {
+    if names_reserved {
         return parts::refuse(10);
     }
     put_lease(image, c, request, x, f, a, p, next, outcome)
@@ -419,14 +419,16 @@ pub fn renew_lease(
     let reservations = c.reservations;
     let closure = held.closure;
     let keys = closure.object_keys;
-    let named = reserved::is_reserved(false, image, reservations, row, keys.at);
-    if a.new_deadline_tick <= n.lease_clock_tick {
+    let past = a.new_deadline_tick <= n.lease_clock_tick;
+    let no_later = a.new_deadline_tick <= held.deadline_tick;
+    let names_reserved = reserved::is_reserved(false, image, reservations, row, keys.at);
+    if past {
         return parts::refuse(24);
     }
-    if a.new_deadline_tick <= held.deadline_tick {
+    if no_later {
         return parts::refuse(24);
     }
-    if named {
+    if names_reserved {
         return parts::refuse(10);
     }
     put_renewed(image, c, request, x, f, a, p, row, held, next, outcome)

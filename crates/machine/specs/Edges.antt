@@ -1,5 +1,5 @@
 -- The starred edges E2 to E10 of the scope paper, as rows of one table, by one theorem. (E1 is about the image.) Two rows more tell the
--- order of ids by their bytes from one by their length, two the order in which ended leases are listed, and four what reserved keys refuse.
+-- order of ids by their bytes from one by their length, two the order in which ended leases are listed, and five are about reserved keys.
 -- Faults off, generation 1; window 3 and frontier 10 stand before every row.
 use Prim.Native.Nat.{ℕ}
 use mathlib.Core.Path.{_≡_, refl}
@@ -95,11 +95,17 @@ key = 107 ∷ []
 abbrev pub closure : SnapshotClosure
 closure = record { manifest = manifest; object-keys = key ∷ (109 ∷ []) ∷ [] }
 
+abbrev manifest-alone : SnapshotClosure
+manifest-alone = record { manifest = manifest; object-keys = (109 ∷ []) ∷ [] }
+
 abbrev pub id : Text
 id = 105 ∷ []
 
+abbrev lease-of : (closure : SnapshotClosure) (lease-id : Text) (version deadline : ℕ) → Action
+lease-of closure lease-id version deadline = AcquireLease lease-id (116 ∷ []) version (111 ∷ []) (112 ∷ []) deadline closure
+
 abbrev lease-under : (lease-id : Text) (version deadline : ℕ) → Action
-lease-under lease-id version deadline = AcquireLease lease-id (116 ∷ []) version (111 ∷ []) (112 ∷ []) deadline closure
+lease-under = lease-of closure
 
 abbrev pub lease : (version deadline : ℕ) → Action
 lease version deadline = lease-under id version deadline
@@ -186,10 +192,12 @@ table =
     ∷ collects collecting 0 7 0
     ∷ answers collecting (collect 7) 0
     ∷ answers collecting (collect 8) 33
-    -- E9: a key that a lease names, mark epoch current; a reserved key in a new lease; a deadline that is past comes first
+    -- E9: a key that a lease names, mark epoch current; a reserved key in a new lease; a deadline that is past comes first; a
+    -- lease on other keys
     ∷ answers (lease 7 9 ∷ []) (reserve 1) 11
     ∷ answers (reserve 0 ∷ []) (lease 7 9) 10
     ∷ answers (reserve 0 ∷ []) (lease 7 0) 24
+    ∷ answers (reserve 0 ∷ []) (lease-of manifest-alone id 7 9) 0
     -- a loaded lease renewed: it names a reserved key; a deadline that is no later comes first; the reserved key is its manifest's, which
     -- it does not name
     ∷ answers-loaded (reserving key) (RenewLease id 1 10) 10

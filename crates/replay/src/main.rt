@@ -1,4 +1,5 @@
-// Replays the answers of the Rust: the cases of standard input, numbers little-endian, each after a byte that says its kind.
+// Replays the answers of the Rust, as document 02 changes them: the cases of standard input, numbers little-endian, each
+// after a byte that says its kind.
 //
 //   0 load        length, image: the image that stands from here
 //   1 apply       length, request; room, outcome room; status; length, next image; length, outcome
@@ -6,7 +7,7 @@
 //   3 test        the number
 //
 // Every length, room and number has 4 bytes. Where 0 is the status, the next image stands from here. Writes a line for each
-// case with the answer given, and `differs` where it is not the Rust's or a byte past it changed; then how many were the same.
+// case with the answer given, and `differs` where it is another one or a byte past it changed; then how many were the same.
 use libc::STDIN_FILENO;
 use libc::STDOUT_FILENO;
 use parts::Applied;
@@ -22,7 +23,7 @@ struct Part {
     len: usize,
 }
 
-// What a case leaves: where the next one begins, the image that stands, the answer, and whether it is the Rust's.
+// What a case leaves: where the next one begins, the image that stands, the answer, and whether it is the one expected.
 struct Case {
     end: usize,
     image: Part,

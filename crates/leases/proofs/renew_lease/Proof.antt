@@ -1,6 +1,6 @@
 use Rattle.next.specs.Call.{refused}
 use Rattle.leases.specs.Placed.{found-as, no-row, a-row}
-use Rattle.leases.specs.Renew.{none-held, other-epoch, not-later, no-longer, is-reserved, is-renewed}
+use Rattle.leases.specs.Renew.{none-held, other-epoch, is-past, is-no-later, is-reserved, is-renewed}
 use borrow.Author.Needs.{needs}
 use Rattle.leases.proofs.renew_lease.Statement.{statement}
 use Rattle.leases.proofs.renew_lease.Tie as tie
@@ -58,7 +58,7 @@ refuse-requires-3 c κs = search needs
 returns-3 : tie.Need-returns-3
 returns-3 c =
     let at-if3 = c .before in
-    let at-if2 = at-if3 .before .before .before .before .before .before .before in
+    let at-if2 = at-if3 .before .before .before .before .before .before .before .before .before in
     let at-lease-token-at = at-if2 .before .before .before in
     let at-if1 = at-lease-token-at .before in
     let at-row = at-if1 .before in
@@ -67,7 +67,7 @@ returns-3 c =
     let start = at-clip .before .before .before .before .before .before .before .before in
     let found = found-as _ (at-clip .clip .ensures) (at-locate .locate .ensures) in
     let there = a-row found (at-row .row .ensures) (at-if1 .if1 .left) in
-    refused (start .pre) 24 (not-later (start .pre) found there (at-row .row .ensures) (at-lease-token-at .lease-token-at .ensures) (at-if2 .if2 .left) (at-if3 .if3 .taken)) (c .refuse3 .ensures)
+    refused (start .pre) 24 (is-past (start .pre) found there (at-row .row .ensures) (at-lease-token-at .lease-token-at .ensures) (at-if2 .if2 .left) (at-if3 .if3 .taken)) (c .refuse3 .ensures)
 
 refuse-requires-4 : tie.Need-refuse-requires-4
 refuse-requires-4 c κs = search needs
@@ -75,8 +75,8 @@ refuse-requires-4 c κs = search needs
 returns-4 : tie.Need-returns-4
 returns-4 c =
     let at-if4 = c .before in
-    let at-if3 = at-if4 .before .before .before in
-    let at-if2 = at-if3 .before .before .before .before .before .before .before in
+    let at-if3 = at-if4 .before in
+    let at-if2 = at-if3 .before .before .before .before .before .before .before .before .before in
     let at-lease-token-at = at-if2 .before .before .before in
     let at-if1 = at-lease-token-at .before in
     let at-row = at-if1 .before in
@@ -85,7 +85,7 @@ returns-4 c =
     let start = at-clip .before .before .before .before .before .before .before .before in
     let found = found-as _ (at-clip .clip .ensures) (at-locate .locate .ensures) in
     let there = a-row found (at-row .row .ensures) (at-if1 .if1 .left) in
-    refused (start .pre) 24 (no-longer (start .pre) found there (at-row .row .ensures) (at-lease-token-at .lease-token-at .ensures) (at-if2 .if2 .left) (at-if3 .if3 .left) (at-if4 .if4 .taken)) (c .refuse4 .ensures)
+    refused (start .pre) 24 (is-no-later (start .pre) found there (at-row .row .ensures) (at-lease-token-at .lease-token-at .ensures) (at-if2 .if2 .left) (at-if3 .if3 .left) (at-if4 .if4 .taken)) (c .refuse4 .ensures)
 
 refuse-requires-5 : tie.Need-refuse-requires-5
 refuse-requires-5 c κs = search needs
@@ -94,9 +94,9 @@ returns-5 : tie.Need-returns-5
 returns-5 c =
     let at-if5 = c .before in
     let at-if4 = at-if5 .before in
-    let at-if3 = at-if4 .before .before .before in
-    let at-is-reserved = at-if3 .before .before .before in
-    let at-if2 = at-is-reserved .before .before .before .before in
+    let at-if3 = at-if4 .before in
+    let at-is-reserved = at-if3 .before in
+    let at-if2 = at-is-reserved .before .before .before .before .before .before .before .before in
     let at-lease-token-at = at-if2 .before .before .before in
     let at-if1 = at-lease-token-at .before in
     let at-row = at-if1 .before in
@@ -111,9 +111,9 @@ put-renewed-requires : tie.Need-put-renewed-requires
 put-renewed-requires c κs =
     let at-if5 = c .before .before in
     let at-if4 = at-if5 .before in
-    let at-if3 = at-if4 .before .before .before in
-    let at-is-reserved = at-if3 .before .before .before in
-    let at-if2 = at-is-reserved .before .before .before .before in
+    let at-if3 = at-if4 .before in
+    let at-is-reserved = at-if3 .before in
+    let at-if2 = at-is-reserved .before .before .before .before .before .before .before .before in
     let at-lease-token-at = at-if2 .before .before .before in
     let at-if1 = at-lease-token-at .before in
     let at-row = at-if1 .before in
