@@ -1,8 +1,8 @@
 //! Steps the authority through libokv.a by the frames of standard input, which `tools/okv frames SCRIPT` writes. Prints
 //! a line for each frame: its step, the number answered, the lengths of image and outcome, what validation says of the
 //! newest lease token (41 while there is none), and the leases that ended, in the order in which they ran out. Writes the
-//! last image and outcome to the two files that its arguments name. A third argument names an image to begin with, in
-//! place of the default one.
+//! last image and outcome to the two files that its arguments name. Two arguments more name such files to begin with, in
+//! place of the default image and no outcome.
 use std::io::Read;
 
 /// The functions of include/okv.h over slices. An error is the number of the refusal.
@@ -61,21 +61,35 @@ fn ended(outcome: &[u8]) -> Vec<String> {
     ids
 }
 
+/// The token of outcomes 2 and 3, LeaseAcquired and LeaseRenewed: what stands after that byte.
+fn token_of(outcome: &[u8]) -> Option<Vec<u8>> {
+    match outcome {
+        [2 | 3, token @ ..] => Some(token.to_vec()),
+        _ => None,
+    }
+}
+
+fn default_image() -> Vec<u8> {
+    let mut image = vec![0; 65535];
+    let length = okv::default(&mut image).expect("room for the default image");
+    image.truncate(length);
+    image
+}
+
 fn number<T>(answer: Result<T, u32>) -> u32 {
     answer.err().unwrap_or(0)
 }
 
 fn main() -> std::io::Result<()> {
-    let mut paths = std::env::args().skip(1);
-    let image_path = paths.next().expect("a path for the image");
-    let outcome_path = paths.next().expect("a path for the outcome");
-    let (mut next, mut outcome) = (vec![0; 65535], vec![0; 8192]);
-    let length = okv::default(&mut next).expect("room for the default image");
-    let (mut image, mut last, mut token) = (next[..length].to_vec(), vec![], vec![]);
-    if let Some(path) = paths.next() {
-        image = std::fs::read(path)?;
-    }
+    let paths: Vec<String> = std::env::args().skip(1).collect();
+    let [image_path, outcome_path, begin @ ..] = &paths[..] else { panic!("two paths: for the image, for the outcome") };
+    let (mut image, mut last) = match begin {
+        [image, outcome] => (std::fs::read(image)?, std::fs::read(outcome)?),
+        _ => (default_image(), vec![]),
+    };
     assert_eq!(okv::test(&image), Ok(()));
+    let mut token = token_of(&last).unwrap_or_default();
+    let (mut next, mut outcome) = (vec![0; 65535], vec![0; 8192]);
     let mut input = vec![];
     std::io::stdin().read_to_end(&mut input)?;
     let (mut frames, mut step) = (&input[..], 0);
@@ -85,10 +99,7 @@ fn main() -> std::io::Result<()> {
         let answer = okv::apply(&image, request, &mut next, &mut outcome);
         if let Ok((n, m)) = answer {
             (image, last) = (next[..n].to_vec(), outcome[..m].to_vec());
-            // outcomes 2 and 3, LeaseAcquired and LeaseRenewed, are this byte and the token
-            if matches!(last[0], 2 | 3) {
-                token = last[1..].to_vec();
-            }
+            token = token_of(&last).unwrap_or(token);
         }
         let (n, m) = answer.unwrap_or((0, 0));
         let numbers = format!("{step} {} {n} {m} {}", number(answer), number(okv::validate(&image, &token)));

@@ -93,10 +93,10 @@ abbrev key : Text
 key = 107 ∷ []
 
 abbrev pub closure : SnapshotClosure
-closure = record { manifest = manifest; object-keys = key ∷ (109 ∷ []) ∷ [] }
+closure = record { manifest = manifest; object-keys = key ∷ manifest .key ∷ [] }
 
 abbrev manifest-alone : SnapshotClosure
-manifest-alone = record { manifest = manifest; object-keys = (109 ∷ []) ∷ [] }
+manifest-alone = record { manifest = manifest; object-keys = manifest .key ∷ [] }
 
 abbrev pub id : Text
 id = 105 ∷ []
@@ -143,7 +143,7 @@ root = 114 ∷ []
 -- a root with its manifest, set as the collection root, and a range map epoch: all that `collect` has to match
 abbrev collecting : List Action
 collecting =
-    Prepare (112 ∷ []) (record { object-keys = (109 ∷ []) ∷ []; manifest = manifest; destination-root = root; expected-prior-root = none })
+    Prepare (112 ∷ []) (record { object-keys = manifest .key ∷ []; manifest = manifest; destination-root = root; expected-prior-root = none })
     ∷ Publish (112 ∷ []) root none manifest
     ∷ ConfigureCollectionRoot none root
     ∷ ObserveRangeMapEpoch 1
@@ -202,7 +202,7 @@ table =
     -- it does not name
     ∷ answers-loaded (reserving key) (RenewLease id 1 10) 10
     ∷ answers-loaded (reserving key) (RenewLease id 1 9) 24
-    ∷ answers-loaded (reserving (109 ∷ [])) (RenewLease id 1 10) 0
+    ∷ answers-loaded (reserving (manifest .key)) (RenewLease id 1 10) 0
     -- E10: index 0, generation 0, term 0
     ∷ answers-at (context 1 1 0) (ObserveCommittedFrontier 10) 2
     ∷ answers-at (context 0 1 1) (ObserveCommittedFrontier 10) 2

@@ -1,4 +1,5 @@
--- `apply` and `validate_active_snapshot_lease` of the Rust, over plain maps: one definition to a function, its tests in its order.
+-- `apply` and `validate_active_snapshot_lease` of the Rust, over plain maps: one definition to a function, its tests in its order. What
+-- document 02 adds to them is said where it is defined.
 -- Where the Rust has `test && !faults.f` the flag stands first, so that the test computes away when the flag is known.
 use Prim.Native.Nat.{ℕ}
 use mathlib.Core.List.{List}
