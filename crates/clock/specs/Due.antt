@@ -17,7 +17,7 @@ use Rattle.state.specs.Sorted.{InOrder}
 use Rattle.state.specs.Records.{SnapshotLeaseToken}
 use Rattle.fields.specs.Format.{all, El, enc, enc-text}
 use Rattle.fields.specs.FormatLaws.{dec-enc}
-use Rattle.fields.specs.Codes.{codes, skip, codesOf}
+use Rattle.fields.specs.Codes.{codes, skip, codesOf, shape}
 use Rattle.fields.specs.Walks.{placeOf}
 use Rattle.fields.specs.Rows.{text-here}
 use Rattle.tables.specs.SeekLaws.{Hopped, tails}
@@ -48,7 +48,7 @@ endedCount tick (r ∷ rs) = cond (due tick r) (suc (endedCount tick rs)) (ended
 
 -- ---- a row that stands at p, and the next at q
 
-module _ (s : List ℕ) (p q : ℕ) (e : q ≡ placeOf s (skip 0 (codesOf (64 ∷ 64 ∷ 8 ∷ 8 ∷ 64 ∷ 64 ∷ 8 ∷ 9 ∷ 128 ∷ 8 ∷ 64 ∷ 10 ∷ 8 ∷ 8 ∷ 8 ∷ [])) (drop p s))) where
+module _ (s : List ℕ) (p q : ℕ) (e : q ≡ placeOf s (skip 0 (codesOf (shape lease)) (drop p s))) where
   pub row-size : p ≤ length s → q - p ≡ length (drop p s) - length (skip 0 (codes lease) (drop p s))
   row-size h = omega (arith, next-is s p q e, rest-low s p q e, length-drop p s)
 

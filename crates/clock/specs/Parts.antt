@@ -6,7 +6,7 @@ use mathlib.Core.List.{List, [], _∷_, _++_}
 use mathlib.Core.Path.{_≡_, refl, ap, _∙_, subst}
 use lib.ListN.{length, drop}
 use Rattle.parts.specs.Gather.{run, gatherOf, Filled, setPart}
-use Rattle.fields.specs.Codes.{codes, skip, codesOf}
+use Rattle.fields.specs.Codes.{codes, skip, codesOf, shape}
 use Rattle.fields.specs.Walks.{placeOf}
 use Rattle.tables.specs.Seek.{rows-at}
 use Rattle.image.specs.Shapes.{lease}
@@ -31,7 +31,7 @@ module _ (tick : ℕ) where
 
   module _ (s : List ℕ) (p q : ℕ) where
     pub kept-run : (gone : Bool) (len long : ℕ) → p ≤ length s → gone ≡ due tick (drop p s)
-        → q ≡ placeOf s (skip 0 (codesOf (64 ∷ 64 ∷ 8 ∷ 8 ∷ 64 ∷ 64 ∷ 8 ∷ 9 ∷ 128 ∷ 8 ∷ 64 ∷ 10 ∷ 8 ∷ 8 ∷ 8 ∷ [])) (drop p s))
+        → q ≡ placeOf s (skip 0 (codesOf (shape lease)) (drop p s))
         → long ≡ q - p → len ≡ cond gone 0 long → run s p len ≡ cond (due tick (drop p s)) [] (rowOf (drop p s))
     kept-run gone len long h g e w l =
         ap (run s p) (l ∙ ap (λ (b : Bool). cond b 0 long) g) ∙ run-unless (due tick (drop p s)) s p long (rowOf (drop p s)) (ap (run s p) (w ∙ row-size s p q e h))

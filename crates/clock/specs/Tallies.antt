@@ -2,14 +2,14 @@
 use Prim.Native.Nat.{ℕ, suc, _+_, _-_, _≤_, _<_, min}
 use native.Mathlib.Omega.{arith}
 use mathlib.Core.Bool.{Bool, true, false, cond}
-use mathlib.Core.List.{List, [], _∷_, _++_}
+use mathlib.Core.List.{List, [], _++_}
 use mathlib.Core.Path.{_≡_, refl, sym, ap, _∙_}
 use lib.ListN.{length, take, drop, length-append}
 use Rattle.parts.specs.Digits.{value}
-use Rattle.fields.specs.Codes.{codes, skip, codesOf}
+use Rattle.fields.specs.Codes.{codes, skip, codesOf, shape}
 use Rattle.fields.specs.Walks.{placeOf, drop-within}
 use Rattle.tables.specs.Seek.{rows-at}
-use Rattle.image.specs.Shapes.{lease}
+use Rattle.image.specs.Shapes.{lease, before-version}
 use Rattle.expiry.specs.Due.{due, next-low, rows-none, rows-next}
 use Rattle.leases.specs.Oldest.{oldestKept, kept-end, kept-on}
 use Rattle.clock.specs.Due.{rowOf, keptBytes, endedCount, next-high, row-length}
@@ -71,8 +71,8 @@ module _ (tick floor : ℕ) (s : List ℕ) (at n : ℕ) where
   }
 
   module _ (i p : ℕ) (t : Tally) (k : Counted tick floor s at n i p t) where
-    pub counted-on : (gone : Bool) (version len q : ℕ) → i < n → gone ≡ due tick (drop p s) → version ≡ value (take 8 (skip 0 (codesOf (64 ∷ 64 ∷ [])) (drop p s)))
-        → q ≡ placeOf s (skip 0 (codesOf (64 ∷ 64 ∷ 8 ∷ 8 ∷ 64 ∷ 64 ∷ 8 ∷ 9 ∷ 128 ∷ 8 ∷ 64 ∷ 10 ∷ 8 ∷ 8 ∷ 8 ∷ [])) (drop p s)) → len ≡ q - p
+    pub counted-on : (gone : Bool) (version len q : ℕ) → i < n → gone ≡ due tick (drop p s) → version ≡ value (take 8 (skip 0 (codesOf (shape before-version)) (drop p s)))
+        → q ≡ placeOf s (skip 0 (codesOf (shape lease)) (drop p s)) → len ≡ q - p
         → Counted tick floor s at n (i + 1) q (tallied t gone version len)
     unfolding endedCount keptBytes
     counted-on gone version len q h g v e l =

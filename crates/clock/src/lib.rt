@@ -8,13 +8,16 @@ ghost use Rattle.parts.specs.Answer.{Gave};
 ghost use Rattle.parts.specs.Gather.{Filled};
 ghost use Rattle.entries.specs.Bytes.{applyBytes};
 ghost use Rattle.machine.specs.Next.{up};
+ghost use Rattle.machine.specs.Tests.{firstOf};
 ghost use Rattle.requests.specs.declared.PublicationAction.{PublicationAction};
 ghost use Rattle.next.specs.Added.{Added};
 ghost use Rattle.next.specs.Call.{Ready};
 ghost use Rattle.clock.specs.Due.{keptBytes};
 ghost use Rattle.clock.specs.Tallies.{tallied, tallyOf};
 ghost use Rattle.clock.specs.Parts.{BodyIs};
+ghost use Rattle.clock.specs.Advance.{advanceTests};
 use image::Contents;
+use image::Table;
 use next::LeasesExpired;
 use next::PublicationOutcome;
 use parts::Applied;
@@ -52,7 +55,6 @@ fn count_rows(s: &[u8], at: usize, n: usize, tick: u64, floor: u64) -> Tally
     requires { ⌜ (n ≤ 64) × (length (now s) ≤ 65535) ⌝ }
     ensures { λ r. ⌜ r ≡ tallyOf tick floor (now (s .entry)) at n ⌝ }
 {
-    let before = [64u8, 64];
     let mut i = 0;
     let mut p = fields::within(s, at);
     let mut t = Tally {
@@ -65,7 +67,7 @@ fn count_rows(s: &[u8], at: usize, n: usize, tick: u64, floor: u64) -> Tally
         t = count_row(
             t,
             expiry::is_due(s, p, tick),
-            tables::number_after(&before, s, p),
+            tables::number_after(&image::LEASE[..image::LEASE_VERSION], s, p),
             parts::less(q, p),
         );
         p = q;
@@ -134,6 +136,18 @@ fn root_after(omit: bool, ended: usize, n: u64) -> u64
     up_if(ended, n)
 }
 
+fn advance_refusal(a: AdvanceLeaseClock, clock: u64) -> u32
+    ensures { λ r. ⌜ r ≡ firstOf (advanceTests a clock) ⌝ }
+{
+    if a.expected_tick != clock {
+        return 25;
+    }
+    if a.next_tick <= a.expected_tick {
+        return 26;
+    }
+    0
+}
+
 pub fn advance_lease_clock(
     image: &[u8],
     c: Contents,
@@ -148,12 +162,11 @@ pub fn advance_lease_clock(
     ensures { λ r. ⌜ Gave (applyBytes (now (image .entry)) (now (request .entry)) (length (now (next .entry))) (length (now (outcome .entry)))) (now (next .entry)) (now (outcome .entry)) r (now (next .exit)) (now (outcome .exit)) ⌝ }
 {
     let n = c.scalars;
-    let leases = c.leases;
-    if a.expected_tick != n.lease_clock_tick {
-        return parts::refuse(25);
-    }
-    if a.next_tick <= a.expected_tick {
-        return parts::refuse(26);
+    let tables = c.tables;
+    let leases = tables[image::LEASES];
+    let status = advance_refusal(a, n.lease_clock_tick);
+    if status != 0 {
+        return parts::refuse(status);
     }
     let w = n.retention_window;
     let policy = floor::policy_for(w, n.observed_commit_frontier, n.policy_floor);
@@ -161,8 +174,12 @@ pub fn advance_lease_clock(
     let epoch = up_if(t.ended, n.lease_epoch);
     let root_epoch = root_after(f.omit_lease_root_epoch, t.ended, n.root_intent_epoch);
     let readable = floor::readable_for(w, t.oldest, n.minimum_readable_version);
-    let count = parts::less(leases.count, t.ended);
-    let c2 = leases::with_leases(
+    let table = Table {
+        at: leases.at,
+        size: t.size,
+        count: parts::less(leases.count, t.ended),
+    };
+    let d = leases::with_leases(
         c,
         x,
         root_epoch,
@@ -170,16 +187,17 @@ pub fn advance_lease_clock(
         readable,
         a.next_tick,
         epoch,
-        t.size,
-        count,
+        table,
     );
+    let intents = tables[image::INTENTS];
+    let jobs = tables[image::JOBS];
     let body = body_parts(
         image,
-        c.intents.at,
+        intents.at,
         leases.at,
         leases.count,
         a.next_tick,
-        c.jobs.at,
+        jobs.at,
     );
     let told = PublicationOutcome::LeasesExpired(LeasesExpired {
         at: leases.at,
@@ -188,8 +206,8 @@ pub fn advance_lease_clock(
     });
     let used = 3 * (leases.count + 2);
     next::emit(
-        0,
-        c2,
+        image,
+        d,
         image,
         request,
         &body[0..used],

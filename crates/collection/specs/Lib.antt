@@ -1,5 +1,5 @@
 pub mod After
+pub mod AfterLaws
 pub mod Tests
 pub mod Configure
-pub mod Jobs
 pub mod Abandon

@@ -1,5 +1,5 @@
 pub mod Conflicts
 pub mod Input
-pub mod Refusals
-pub mod Rules
+pub mod Tests
+pub mod FirstLaws
 pub mod Prepare

@@ -5,20 +5,19 @@ ghost use lib.ListN.{length, drop};
 ghost use lib.Dec.{eqb};
 ghost use Prim.Native.Nat.{_≤_};
 ghost use Rattle.parts.specs.Answer.{Gave};
+ghost use Rattle.machine.specs.Tests.{firstOf};
 ghost use Rattle.state.specs.Maps.{any};
 ghost use Rattle.fields.specs.Codes.{codes};
 ghost use Rattle.tables.specs.Seek.{rows-at};
 ghost use Rattle.image.specs.Shapes.{job};
 ghost use Rattle.entries.specs.Bytes.{applyBytes};
-ghost use Rattle.requests.specs.Meaning.{textOf};
 ghost use Rattle.requests.specs.declared.PublicationAction.{PublicationAction};
 ghost use Rattle.next.specs.Call.{Ready};
 ghost use Rattle.collection_jobs.specs.Conflicts.{conflictsAt};
 ghost use Rattle.collection_jobs.specs.Input.{inputStands};
-ghost use Rattle.collection_jobs.specs.Refusals.{malformedAt, staleAt, prepareRefusal};
+ghost use Rattle.collection_jobs.specs.Tests.{malformedTests, staleTests, prepareTests};
 use image::Contents;
 use image::MaybeText;
-use image::Table;
 use image::TextAt;
 use next::PublicationOutcome;
 use parts::Applied;
@@ -26,15 +25,17 @@ use requests::AuthorityContext;
 use requests::CollectionJobToken;
 use requests::PrepareCollection;
 use requests::PublicationAuthorityFaults;
+use tables::Place;
 
 // A job at a place in the way of another: its root, or a namespace of which one begins with the other.
 fn conflicts(s: &[u8], p: usize, root: &[u8], namespace: &[u8]) -> bool
     ensures { λ r. ⌜ r ≡ conflictsAt (now (root .entry)) (now (namespace .entry)) (drop p (now (s .entry))) ⌝ }
 {
-    let before_root = [64u8, 8, 8, 8, 8, 9, 128, 8, 64];
-    let before_namespace = [64u8, 8, 8, 8, 8, 9, 128, 8, 64, 64, 8, 8];
-    let old_root = fields::text_at(s, tables::skip_record(&before_root, s, p));
-    let old = fields::text_at(s, tables::skip_record(&before_namespace, s, p));
+    let old_root = fields::text_at(s, tables::skip_record(&image::JOB[..image::JOB_ROOT], s, p));
+    let old = fields::text_at(
+        s,
+        tables::skip_record(&image::JOB[..image::JOB_NAMESPACE], s, p),
+    );
     if text::same(old_root, root) {
         return true;
     }
@@ -63,16 +64,24 @@ fn any_conflict(s: &[u8], at: usize, n: usize, root: &[u8], namespace: &[u8]) ->
     false
 }
 
-// Whether the manifest at a place of the request is the one that is stored under a root.
-pub fn input_stands(image: &[u8], roots: Table, root: &[u8], request: &[u8], at: usize) -> bool
+// Whether the manifest at a place of the request is the one that the row of a root holds. No row is empty.
+pub fn input_stands(row: &[u8], root: &[u8], request: &[u8], at: usize) -> bool
     requires { ⌜ length (now root) ≤ 64 ⌝ }
-    ensures { λ r. ⌜ r ≡ inputStands (now (image .entry)) roots (now (root .entry)) (now (request .entry)) at ⌝ }
+    ensures { λ r. ⌜ r ≡ inputStands (now (row .entry)) (now (root .entry)) (now (request .entry)) at ⌝ }
 {
-    let manifest = [9u8, 128, 8, 64];
-    let row = tables::find(&image::REFERENCE, image, roots.at, roots.count, root);
-    let end = tables::skip_record(&manifest, request, at);
+    let end = tables::skip_record(&image::REFERENCE, request, at);
     let shown = parts::clip(request, at, parts::less(end, at));
     edits::row_holds(row, root.len() + 1, shown)
+}
+
+// The input does not stand, and a fault flag does not say to pass over it.
+pub fn other_input(ignore: bool, stands: bool) -> bool
+    ensures { λ r. ⌜ r ≡ not ignore && not stands ⌝ }
+{
+    if ignore {
+        return false;
+    }
+    !stands
 }
 
 // One of two numbers.
@@ -95,38 +104,42 @@ fn differ_unless(ignore: bool, a: u64, b: u64) -> bool
     true
 }
 
-fn malformed(request: &[u8], a: PrepareCollection) -> bool
-    ensures { λ r. ⌜ r ≡ malformedAt (now (request .entry)) a ⌝ }
+// The status of the first test of the request itself that refuses a job; 0 where none does.
+fn malformed(request: &[u8], a: PrepareCollection) -> u32
+    ensures { λ r. ⌜ r ≡ firstOf (malformedTests (now (request .entry)) a) ⌝ }
 {
     let id = a.job_id;
     let m = a.input_manifest;
     let root = a.destination_root;
     let namespace = a.output_namespace;
     if records::is_empty(request, id) {
-        return true;
+        return 2;
     }
     if a.frozen_floor == 0 {
-        return true;
+        return 2;
     }
     if !records::is_manifest(m) {
-        return true;
+        return 2;
     }
     if !records::valid_reference(request, m) {
-        return true;
+        return 2;
     }
     if records::is_empty(request, root) {
-        return true;
+        return 2;
     }
     if a.range_map_epoch == 0 {
-        return true;
+        return 2;
     }
     if records::is_empty(request, namespace) {
-        return true;
+        return 2;
     }
-    !text::ends_with_byte(parts::clip(request, namespace.at, namespace.len), 47)
+    if !text::ends_with_byte(parts::clip(request, namespace.at, namespace.len), 47) {
+        return 2;
+    }
+    0
 }
 
-// What a job shows of the state: its range map, the collection root, how far was collected.
+// The status of the first test of what a job shows of the state that refuses it; 0 where none does.
 pub fn stale(
     image: &[u8],
     c: Contents,
@@ -136,7 +149,7 @@ pub fn stale(
     root: TextAt,
     collected: u64,
 ) -> u32
-    ensures { λ r. ⌜ r ≡ staleAt (now (image .entry)) c (now (request .entry)) ignore range root collected ⌝ }
+    ensures { λ r. ⌜ r ≡ firstOf (staleTests (now (image .entry)) c (now (request .entry)) ignore range root collected) ⌝ }
 {
     let n = c.scalars;
     let old = n.collection_root;
@@ -152,38 +165,33 @@ pub fn stale(
     0
 }
 
-// The number of the first test that a job to be prepared does not pass, or 0.
+// The status of the first test that refuses a job; 0 where none does. Its id was found at a place.
 fn prepare_refusal(
     image: &[u8],
     c: Contents,
     request: &[u8],
     f: PublicationAuthorityFaults,
     a: PrepareCollection,
+    place: Place,
+    stands: bool,
 ) -> u32
-    requires { ⌜ (length (textOf (now request) (a .«job_id»)) ≤ 64) × (length (textOf (now request) (a .«destination_root»)) ≤ 64) ⌝ }
-    ensures { λ r. ⌜ r ≡ prepareRefusal (now (image .entry)) c (now (request .entry)) f a ⌝ }
+    ensures { λ r. ⌜ r ≡ firstOf (prepareTests (now (image .entry)) c (now (request .entry)) f a place stands) ⌝ }
 {
     let n = c.scalars;
-    let jobs = c.jobs;
-    let roots = c.roots;
-    let t = a.job_id;
+    let tables = c.tables;
+    let jobs = tables[image::JOBS];
     let u = a.destination_root;
     let v = a.output_namespace;
-    if malformed(request, a) {
-        return 2;
+    let first = malformed(request, a);
+    if first != 0 {
+        return first;
     }
-    let id = parts::clip(request, t.at, t.len);
-    let root = parts::clip(request, u.at, u.len);
-    if reserved::located(&image::JOB, image, jobs.at, jobs.count, id) {
+    if place.start < place.end {
         return 29;
     }
-    if any_conflict(
-        image,
-        jobs.at,
-        jobs.count,
-        root,
-        parts::clip(request, v.at, v.len),
-    ) {
+    let root = parts::clip(request, u.at, u.len);
+    let namespace = parts::clip(request, v.at, v.len);
+    if any_conflict(image, jobs.at, jobs.count, root, namespace) {
         return 32;
     }
     let old = stale(
@@ -204,11 +212,7 @@ fn prepare_refusal(
     if n.minimum_readable_version < a.frozen_floor {
         return 33;
     }
-    if f.ignore_collection_input_root {
-        return 0;
-    }
-    // after the id and the floor
-    if !input_stands(image, roots, root, request, id.len() + 36) {
+    if other_input(f.ignore_collection_input_root, stands) {
         return 7;
     }
     0
@@ -228,16 +232,21 @@ pub fn prepare_collection(
     ensures { λ r. ⌜ Gave (applyBytes (now (image .entry)) (now (request .entry)) (length (now (next .entry))) (length (now (outcome .entry)))) (now (next .entry)) (now (outcome .entry)) r (now (next .exit)) (now (outcome .exit)) ⌝ }
 {
     let n = c.scalars;
-    let root = n.collection_root;
-    let roots = c.roots;
-    let jobs = c.jobs;
+    let tables = c.tables;
+    let roots = tables[image::ROOTS];
+    let jobs = tables[image::JOBS];
     let t = a.job_id;
-    let status = prepare_refusal(image, c, request, f, a);
+    let u = a.destination_root;
+    let id = parts::clip(request, t.at, t.len);
+    let root = parts::clip(request, u.at, u.len);
+    let place = tables::locate(&image::JOB, image, jobs.at, jobs.count, id);
+    let spot = tables::locate(&image::REFERENCE_ROW, image, roots.at, roots.count, root);
+    // the manifest stands after the id and the floor
+    let stands = input_stands(tables::row(image, spot), root, request, id.len() + 36);
+    let status = prepare_refusal(image, c, request, f, a, place, stands);
     if status != 0 {
         return parts::refuse(status);
     }
-    let id = parts::clip(request, t.at, t.len);
-    let place = tables::locate(&image::JOB, image, jobs.at, jobs.count, id);
     // the token is the action's fields, with generation and position after the id
     let more = edits::after_insert(jobs, place, parts::less(request.len(), 3));
     let collected = either(
@@ -245,13 +254,16 @@ pub fn prepare_collection(
         a.frozen_floor,
         n.physically_collected_through,
     );
-    let c2 = collection::contents_after(c, x, collected, root, roots, more);
-    let ahead = parts::less(place.start, c.intents.at);
+    let mut d = next::raised(c, x.position);
+    d.scalars.physically_collected_through = collected;
+    d.tables[image::JOBS] = more;
+    let begin = tables[image::INTENTS];
+    let ahead = parts::less(place.start, begin.at);
     let first = id.len() + 1;
     let rest = id.len() + 28;
     let body = [
         0,
-        c.intents.at,
+        begin.at,
         ahead,
         1,
         27,
@@ -274,7 +286,6 @@ pub fn prepare_collection(
     ];
     let authority_position = x.position;
     let input_manifest = a.input_manifest;
-    let destination_root = a.destination_root;
     let output_namespace = a.output_namespace;
     let told = PublicationOutcome::CollectionPrepared(CollectionJobToken {
         job_id: t,
@@ -282,10 +293,10 @@ pub fn prepare_collection(
         authority_position,
         frozen_floor: a.frozen_floor,
         input_manifest,
-        destination_root,
+        destination_root: u,
         range_map_epoch: a.range_map_epoch,
         expected_collected_through: a.expected_collected_through,
         output_namespace,
     });
-    next::emit(0, c2, image, request, &body, image, told, next, outcome)
+    next::emit(image, d, image, request, &body, image, told, next, outcome)
 }

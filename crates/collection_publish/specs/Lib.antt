@@ -1,3 +1,2 @@
-pub mod Refusals
-pub mod Rule
+pub mod Tests
 pub mod Publish

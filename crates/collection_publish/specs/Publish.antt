@@ -1,79 +1,68 @@
 -- PublishCollection: its answers, the contents that show its next state, and what is written.
 use Prim.Native.Nat.{ℕ, _+_, _-_, _≤_}
 use native.Mathlib.Omega.{arith}
-use mathlib.Core.Bool.{Bool, true, false, not, cond, _&&_}
+use mathlib.Core.Bool.{Bool, false, not, cond, _&&_}
 use mathlib.Core.List.{List, [], _∷_, _++_, append-assoc, append-nil}
-use mathlib.Core.Option.{Option, none, some}
+use mathlib.Core.Option.{some}
 use mathlib.Core.Path.{_≡_, refl, sym, ap, _∙_, subst}
-use lib.Dec.{eqb}
-use lib.ListN.{length, take, drop, length-append, length-drop}
-use borrow.Author.Tests.{eqb-true, eqb-false}
+use lib.Dec.{ltb, eqb}
+use lib.ListN.{length, take, drop, set, length-append, length-drop}
+use borrow.Author.Tests.{eqb-true, eqb-false, not-false}
 use Rattle.text.specs.Same.{sameOf}
+use Rattle.parts.specs.Answer.{longest}
 use Rattle.parts.specs.Digits.{digits}
 use Rattle.parts.specs.DigitLaws.{length-digits}
 use Rattle.parts.specs.Gather.{run, gatherOf}
-use Rattle.state.specs.Maps.{Text, _⟼_, same, same-option, lookup, insert, remove}
+use Rattle.state.specs.Maps.{Text, Map, _⟼_, same, same-option, lookup, insert, remove}
 use Rattle.state.specs.Places.{ahead, at, behind}
-use Rattle.state.specs.Records.{State, ObjectReference, CollectionJobToken, CollectionReceipt, reference-eq, job-eq, valid-receipt}
-use Rattle.state.specs.Setters.{set-revision}
+use Rattle.state.specs.Records.{State, ObjectReference, CollectionJobToken, CollectionReceipt, reference-eq, job-eq}
+use Rattle.state.specs.RecordLaws.{job-sound}
+use Rattle.state.specs.Setters.{set-revision, set-roots}
 use Rattle.fields.specs.Format.{_▹_, enc, enc-text, all}
-use Rattle.fields.specs.Codes.{Code, codes, codesOf, skip}
+use Rattle.fields.specs.Codes.{Code, codes, codesOf, skip, shape, shape-codes}
 use Rattle.fields.specs.Walks.{placeOf}
-use Rattle.tables.specs.Seek.{seek, placed}
+use Rattle.tables.specs.Seek.{Seen, seek, placed}
 use Rattle.tables.specs.declared.Place.{Place}
-use Rattle.image.specs.Body.{row}
-use Rattle.image.specs.Shapes.{short, u64, key, keys, reference, job, reference-parts, job-parts}
-use Rattle.image.specs.SameBytes.{same-reference}
-use Rattle.image.specs.Tables.{reference-row, job-row, bytes-split, bytes-insert, bytes-remove}
-use Rattle.image.specs.ImageParts.{intents-bytes, roots-bytes, pins-bytes, reservations-bytes, leases-bytes, jobs-bytes, intents-at, roots-at, jobs-at, from-pins, from-intents}
-use Rattle.image.specs.Opened.{contentsOf}
-use Rattle.image.specs.Stored.{roots-stored, jobs-stored}
+use Rattle.image.specs.Shapes.{u64, key, keys, reference, job, reference-parts, job-parts}
+use Rattle.image.specs.Layout.{intents, pins, roots, reservations, leases, jobs, row-format}
+use Rattle.image.specs.SameBytes.{same-reference, same-job}
+use Rattle.image.specs.Tables.{bytes-split, bytes-insert, bytes-remove}
+use Rattle.image.specs.ImageParts.{row-bytes, table-of, tables-of, joined}
+use Rattle.image.specs.Opened.{measureIn, Shows}
+use Rattle.image.specs.OpenedLaws.{run-to, after-seam}
+use Rattle.image.specs.Stored.{stored-in}
+use Rattle.image.specs.TableLaws.{tableIn, tablesAt, size-is, count-is, measures-set, measures-with}
+use Rattle.image.specs.Front.{Small}
 use Rattle.image.specs.declared.Table.{Table}
 use Rattle.image.specs.declared.Contents.{Contents}
-use Rattle.machine.specs.Actions.{rejected, CollectionPublished}
-use Rattle.machine.specs.Machine.{any-reserved}
+use Rattle.machine.specs.Actions.{Rule, rejected, accepted, decide, CollectionPublished}
+use Rattle.machine.specs.Machine.{act, publish-collection}
 use Rattle.machine.specs.Next.{collection-published}
-use Rattle.requests.specs.Meaning.{receiptOf, contextOf, faultsOf, positionOf, requestOf}
+use Rattle.machine.specs.Tests.{Refusal, firstOf}
+use Rattle.machine.specs.TestLaws.{Agrees, _then_, first-refuses, first-passed, first-decides}
+use Rattle.requests.specs.Meaning.{receiptOf, contextOf, faultsOf, positionOf, actionOf, requestOf}
 use Rattle.requests.specs.declared.AuthorityContext.{AuthorityContext as ContextAt}
 use Rattle.requests.specs.declared.PublicationAuthorityFaults.{PublicationAuthorityFaults as FaultsAt}
 use Rattle.requests.specs.declared.CollectionReceipt.{CollectionReceipt as ReceiptAt}
 use Rattle.requests.specs.declared.PublicationAction.{PublicationAction}
-use Rattle.next.specs.Head.{Small}
-use Rattle.next.specs.Shows.{Shown, Shows}
 use Rattle.next.specs.Call.{Ready, ruled}
 use Rattle.next.specs.Asked.{fields-here}
 use Rattle.next.specs.AskedPlaces.{receipt-places}
-use Rattle.next.specs.Bounds.{request-small}
+use Rattle.next.specs.Contents.{withTables, raised}
+use Rattle.next.specs.Edit.{row-none, row-some, place-low, from-place, past-place, run-ahead, run-behind, remove-size, remove-count}
+use Rattle.next.specs.Kept.{number-is, small-held, small-scalars}
 use Rattle.next.specs.Outcome.{Fits}
-use Rattle.next.specs.declared.PublicationOutcome.{PublicationOutcome}
-use Rattle.next.specs.Kept.{run-to, after-seam, root-here, root-size-here, small-here, before-jobs, tables-here}
 use Rattle.next.specs.Peeks.{skip-to}
-use Rattle.next.specs.Edit.{run-ahead, run-behind, past-place, start-is, end-is}
+use Rattle.next.specs.ShownLaws.{shows-raised, shows-map, small-table}
+use Rattle.next.specs.declared.PublicationOutcome.{PublicationOutcome}
 use Rattle.reserved.specs.Located.{reserved-here}
 use Rattle.edits.specs.Changes.{afterInsert, afterRemove}
-use Rattle.edits.specs.ChangeLaws.{insert-shown}
-use Rattle.publication.specs.References.{reference-long}
-use Rattle.publication.specs.Stays.{tables-bounded, request-bounded}
-use Rattle.collection.specs.After.{contentsAfter, after-shows}
-use Rattle.collection.specs.Tests.{root-stored}
-use Rattle.collection.specs.Jobs.{jobs-here, jobs-start, tables-low, job-found, no-job-row, a-job-row, job-gone}
-use Rattle.collection_jobs.specs.Input.{rootPlace, manifestEnd, manifest-end, manifest-run, root-found, input-stands}
-use Rattle.collection_jobs.specs.Refusals.{or-else}
-use Rattle.collection_jobs.specs.Rules.{told, told-no, else-cond}
-use Rattle.collection_jobs.specs.Prepare.{stale-tests}
-use Rattle.collection_publish.specs.Refusals.{sameManifest, tokenEnd, jobPlace, jobRow, publishRefusal}
-use Rattle.collection_publish.specs.Rule.{rest-number, published, publish-tests}
-use Rattle.image.specs.CodeLists.{job-codes}
-
--- ---- the numbers of the code's tests, one after another
-
-five-tests : (a b c d e : Bool) (n : ℕ) → or-else (cond a 2 (cond b 2 (cond c 30 (cond d 35 (cond e 6 0))))) n ≡ cond a 2 (cond b 2 (cond c 30 (cond d 35 (cond e 6 n))))
-five-tests a b c d e n =
-    else-cond a 1 (cond b 2 (cond c 30 (cond d 35 (cond e 6 0)))) n
-    ∙ ap (λ (k : ℕ). cond a 2 k) (else-cond b 1 (cond c 30 (cond d 35 (cond e 6 0))) n
-    ∙ ap (λ (k : ℕ). cond b 2 k) (else-cond c 29 (cond d 35 (cond e 6 0)) n
-    ∙ ap (λ (k : ℕ). cond c 30 k) (else-cond d 34 (cond e 6 0) n
-    ∙ ap (λ (k : ℕ). cond d 35 k) (else-cond e 5 0 n))))
+use Rattle.edits.specs.PlaceLaws.{Located, located-as, table-bounds, spot, missing, Held, held, inserted-shown}
+use Rattle.publication.specs.RaisedLaws.{request-bounded}
+use Rattle.collection.specs.After.{collectedTo}
+use Rattle.collection.specs.AfterLaws.{shows-collected}
+use Rattle.collection_jobs.specs.Input.{manifestEnd, inputStands, manifest-end, manifest-run, input-stands}
+use Rattle.collection_publish.specs.Tests.{sameManifest, tokenEnd, publishTests}
 
 module _ {x q : List ℕ} {c : Contents} {y : ContextAt} {g : FaultsAt} {a : ReceiptAt}
     (pre : Ready x c q (record { context = y; faults = g; action = PublicationAction.PublishCollection a }))
@@ -140,8 +129,8 @@ module _ {x q : List ℕ} {c : Contents} {y : ContextAt} {g : FaultsAt} {a : Rec
 
     token-end : tokenEnd q ≡ 27 + length token-bytes
     token-end =
-        let k : skip 0 (codesOf (64 ∷ 8 ∷ 8 ∷ 8 ∷ 8 ∷ 9 ∷ 128 ∷ 8 ∷ 64 ∷ 64 ∷ 8 ∷ 8 ∷ 128 ∷ [])) (drop 27 q) ≡ output-bytes ++ keys-bytes =
-        ap (λ (cs : List Code). skip 0 cs (drop 27 q)) job-codes ∙ ap (skip 0 (codes job)) here ∙ skip-to job (job-parts token) (output-bytes ++ keys-bytes) in
+        let k : skip 0 (codesOf (shape job)) (drop 27 q) ≡ output-bytes ++ keys-bytes =
+        ap (λ (cs : List Code). skip 0 cs (drop 27 q)) (shape-codes job refl) ∙ ap (skip 0 (codes job)) here ∙ skip-to job (job-parts token) (output-bytes ++ keys-bytes) in
         ap (λ (l : List ℕ). placeOf q l) k ∙ omega (arith, long, bytes-long)
 
     token-run : take (tokenEnd q - 27) (drop 27 q) ≡ token-bytes
@@ -168,24 +157,8 @@ module _ {x q : List ℕ} {c : Contents} {y : ContextAt} {g : FaultsAt} {a : Rec
     input-low : length id + 60 ≤ length q
     input-low = omega (arith, long, front-fits, front-long)
 
-    -- ---- the code's number is the machine's
-
-    abbrev stored : List ℕ
-    stored = jobRow x (contentsOf s) id
-
-    abbrev missing : Bool
-    missing = eqb (length stored) 0
-
-    abbrev equal : Bool
-    equal = sameOf stored (take (tokenEnd q - 27) (drop 27 q))
-
-    no-job-here : missing ≡ true → lookup id (s .collection-jobs) ≡ none
-    no-job-here h = no-job-row s x (pre .image-is) (pre .formed) (contentsOf s) refl id stored refl (eqb-true _ _ h)
-
-    a-job-here : missing ≡ false → (v : CollectionJobToken) × (lookup id (s .collection-jobs) ≡ some v) × (equal ≡ job-eq v token)
-    a-job-here h =
-        let z = a-job-row s x (pre .image-is) (pre .formed) (contentsOf s) refl id stored refl (eqb-false _ _ h) in
-        (z .0, z .1, z .2 token (pre .within .1 .0) _ token-run)
+    pub publish-short : (length id ≤ 64) × (length root ≤ 64)
+    publish-short = (pre .within .1 .0 .0 .fits, pre .within .1 .0 .1 .1 .1 .1 .1 .0 .fits)
 
     manifests : sameManifest q (tokenEnd q) (length id + 60) ≡ reference-eq output input
     unfolding sameManifest
@@ -193,191 +166,211 @@ module _ {x q : List ℕ} {c : Contents} {y : ContextAt} {g : FaultsAt} {a : Rec
         (λ i. sameOf (manifest-run q (tokenEnd q) output keys-bytes output-here output-low i) (manifest-run q (length id + 60) input after-input input-here input-low i))
         ∙ same-reference output input (pre .within .1 .1 .0) (pre .within .1 .0 .1 .1 .1 .1 .0)
 
-    abbrev T₆ : Bool
-    T₆ = not (eqb (token .owner-generation) (y .generation))
-
-    abbrev T₂₈ : Bool
-    T₂₈ = not (g .«ignore_collection_range_epoch») && not (eqb (token .range-map-epoch) (s .range-map-epoch))
-
-    abbrev T₃₆ : Option Text → Bool
-    T₃₆ o = not (same-option same o (some root))
-
-    abbrev T₃₄ : Bool
-    T₃₄ = not (eqb (token .expected-collected-through) (s .physically-collected-through))
-
-    abbrev T₇ : Bool → Bool
-    T₇ b = not (g .«ignore_collection_input_root») && not b
-
-    numbers : publishRefusal x (contentsOf s) q y g a
-        ≡ cond (not (valid-receipt receipt)) 2 (cond (reference-eq output input) 2 (cond missing 30 (cond (not equal) 35 (rest-number s receipt (contextOf y) (faultsOf g)))))
-    numbers =
-        (λ i. or-else (cond (not (valid-receipt receipt)) 2 (cond (manifests i) 2 (cond missing 30 (cond (not equal) 35 (cond T₆ 6 0)))))
-        (or-else (cond T₂₈ 28 (cond (T₃₆ (root-stored s x (pre .image-is) (pre .formed) (contentsOf s) refl i)) 36 (cond T₃₄ 34 0)))
-        (cond (T₇ (input-stands s x (pre .image-is) (pre .formed) (contentsOf s) refl root q (length id + 60) input after-input input-here input-low (pre .within .1 .0 .1 .1 .1 .1 .0) i)) 7
-        (cond (reserved-here s x (pre .image-is) (pre .formed) (contentsOf s) refl (receipt .object-keys) i) 10 0))))
-        ∙ ap (or-else (cond (not (valid-receipt receipt)) 2 (cond (reference-eq output input) 2 (cond missing 30 (cond (not equal) 35 (cond T₆ 6 0))))))
-        (stale-tests T₂₈ (T₃₆ (s .collection-root)) T₃₄
-        (cond (T₇ (same-option reference-eq (lookup root (s .roots)) (some input))) 7 (cond (any-reserved s (receipt .object-keys)) 10 0)))
-        ∙ five-tests (not (valid-receipt receipt)) (reference-eq output input) missing (not equal) T₆ _
-
-    pub publish-ruled : ruled pre ≡ told (publishRefusal x c q y g a) (published s receipt (contextOf y) (faultsOf g))
-    publish-ruled =
-        publish-tests s receipt (contextOf y) (faultsOf g) missing equal no-job-here a-job-here
-        ∙ ap (λ (n : ℕ). told n (published s receipt (contextOf y) (faultsOf g))) (sym (ap (λ (k : Contents). publishRefusal x k q y g a) (pre .opened) ∙ numbers))
-
-    pub publish-no : (n : ℕ) → n ≡ publishRefusal x c q y g a → (n ≡ 0 → ⊥) → ruled pre ≡ rejected n
-    publish-no n e h = publish-ruled ∙ ap (λ (k : ℕ). told k (published s receipt (contextOf y) (faultsOf g))) (sym e) ∙ told-no n _ h
-
-    pub publish-yes : (n : ℕ) → n ≡ publishRefusal x c q y g a → n ≡ 0 → ruled pre ≡ published s receipt (contextOf y) (faultsOf g)
-    publish-yes n e h = publish-ruled ∙ ap (λ (k : ℕ). told k (published s receipt (contextOf y) (faultsOf g))) (sym e ∙ h)
-
-    pub publish-short : (length id ≤ 64) × (length root ≤ 64)
-    publish-short = (pre .within .1 .0 .0 .fits, pre .within .1 .0 .1 .1 .1 .1 .1 .0 .fits)
-
-    -- ---- what is written
-
     -- the receipt is all of the request's fields
     pub receipt-fits : Fits x q (PublicationOutcome.CollectionPublished a)
     unfolding enc
     receipt-fits =
         let z = receipt-places pre in
-        let low : length q ≤ 8000 = subst (λ (l : List ℕ). length l ≤ 8000) (sym (pre .request-is)) (request-small _ (pre .within)) in
         let p₁ : a .token .«job_id» .at - 1 ≡ 27 = omega (arith, z .0) in
         let p₂ : a .«object_keys» .at + a .«object_keys» .len - (a .token .«job_id» .at - 1) ≡ length q - 27 = omega (arith, z .1, p₁) in (
-          omega (arith, z .1, low),
+          omega (arith, z .1, request-bounded pre),
           (λ i. run q (p₁ i) (p₂ i) ++ []) ∙ append-nil (run q 27 (length q - 27))
               ∙ run-to q (token-bytes ++ (output-bytes ++ keys-bytes)) [] 27 (length q - 27) (here ∙ sym (append-nil (token-bytes ++ (output-bytes ++ keys-bytes)))) (sym (length-drop 27 q) ∙ ap length here),
         )
 
-    module _ (id′ root′ : List ℕ) (id-is : id′ ≡ id) (root-is : root′ ≡ root) (r-at : ℕ) (r-at-is : r-at ≡ manifestEnd q (length id′ + 60)) (start : ℕ) (start-at : start ≡ tokenEnd q)
-        (stop : ℕ) (stop-is : stop ≡ manifestEnd q start) (size : ℕ) (size-is : size ≡ stop - start)
-        (spot : Place) (spotted : spot ≡ rootPlace x (c .roots) root′) (gone : Place) (gone-at : gone ≡ jobPlace x c id′)
+    module _ (id′ root′ : List ℕ) (id-is : id′ ≡ id) (root-is : root′ ≡ root)
+        (place : Place) (placed-at : place ≡ placed x (seek (codesOf (shape (row-format roots))) (tableIn roots c .count) root′ (drop (tableIn roots c .at) x)))
+        (gone : Place) (gone-at : gone ≡ placed x (seek (codesOf (shape job)) (tableIn jobs c .count) id′ (drop (tableIn jobs c .at) x)))
       where
-        spot-found : spot ≡ placed x (seek (codes (row short reference)) (length (s .roots)) root (drop (roots-at s) x))
-        spot-found = spotted ∙ ap (rootPlace x (c .roots)) root-is ∙ root-found s x (pre .image-is) (pre .formed) c (pre .opened) root
+        root-found : Located roots x c root place
+        root-found = located-as roots root-is placed-at
 
-        gone-found : gone ≡ placed x (seek (codes job) (length (s .collection-jobs)) id (drop (jobs-at s) x))
-        gone-found = job-found s x (pre .image-is) (pre .formed) c (pre .opened) id gone (gone-at ∙ ap (jobPlace x c) id-is)
+        job-found : Located jobs x c id gone
+        job-found = located-as jobs id-is gone-at
 
-        output-size : size ≡ length output-bytes
-        output-size =
-            let e = manifest-end q (tokenEnd q) output keys-bytes output-here output-low in
-            size-is ∙ (λ i. (stop-is ∙ ap (manifestEnd q) start-at) i - start-at i) ∙ omega (arith, e)
+        -- ---- the answers
 
-        output-run : run q start size ≡ output-bytes
-        output-run = run-to q output-bytes keys-bytes start size (ap (λ (n : ℕ). drop n q) start-at ∙ output-here) output-size
-
-        root-run : run q r-at (length root′ + 1) ≡ enc-text root
-        unfolding enc-text
-        root-run =
-            let e = manifest-end q (length id + 60) input after-input input-here input-low in
-            let r : r-at ≡ length id + 60 + length (enc reference (reference-parts input)) = r-at-is ∙ ap (λ (l : List ℕ). manifestEnd q (length l + 60)) id-is ∙ e in
-            let d : drop r-at q ≡ after-input = after-seam q (enc reference (reference-parts input)) after-input (length id + 60) r-at input-here r in
-            run-to q (enc-text root) (token-rest ++ (output-bytes ++ keys-bytes)) r-at (length root′ + 1) d (let l = ap length root-is in omega arith)
-
-        row-size : length root′ + 1 + size ≡ length (reference-row (root ⟼ output))
-        unfolding enc enc-text
-        row-size = let l = ap length root-is in omega (arith, output-size, length-append (enc-text root) output-bytes)
-
-        pub name-fits : length root′ + 1 ≤ 65
-        name-fits = let l = ap length root-is in omega (arith, publish-short .1)
-
-        pub size-fits : size ≤ 8000
-        size-fits = omega (arith, output-size, long, length-append output-bytes keys-bytes, request-bounded pre)
-
-        pub insert-fits : (c .roots .size ≤ 65535) × (c .roots .count ≤ 128) × (length root′ + 1 + size ≤ 65535)
-        insert-fits = let z = tables-bounded s (pre .formed) c (pre .opened) in (z .1 .0, z .1 .1, omega (arith, name-fits, size-fits))
-
-        -- the rows around both places
-        abbrev before-root : List ℕ
-        before-root = all reference-row (ahead root (s .roots))
-
-        abbrev after-root : List ℕ
-        after-root = all reference-row (behind root (s .roots))
-
-        abbrev before-job : List ℕ
-        before-job = all job-row (ahead id (s .collection-jobs))
-
-        abbrev after-job : List ℕ
-        after-job = all job-row (behind id (s .collection-jobs))
-
-        abbrev between : List ℕ
-        between = after-root ++ (pins-bytes s ++ (reservations-bytes s ++ (leases-bytes s ++ before-job)))
-
-        run-between : run x (spot .end) (gone .start - spot .end) ≡ between
-        run-between =
-            let at-job = all job-row (at id (s .collection-jobs)) in
-            let at-root = all reference-row (at root (s .roots)) in
-            let d : drop (spot .end) x ≡ after-root ++ from-pins s =
-            past-place (codes (row short reference)) reference-row x (intents-at s) (roots-at s) (intents-bytes s) (s .roots) (from-pins s) (tables-here s x (pre .image-is)) refl (tables-low s x (pre .image-is))
-            (roots-stored s (pre .formed) .hopped) root spot spot-found in
-            let e : after-root ++ from-pins s ≡ between ++ (at-job ++ after-job) =
-            ap (λ (l : List ℕ). after-root ++ (pins-bytes s ++ (reservations-bytes s ++ (leases-bytes s ++ l)))) (bytes-split job-row id (s .collection-jobs)) ∙ seam after-root (pins-bytes s) (reservations-bytes s) (leases-bytes s) before-job (at-job ++ after-job) in
-            let n₁ = start-is (codes job) job-row x (intents-at s) (jobs-at s) (before-jobs s []) (s .collection-jobs) [] (jobs-here s x (pre .image-is)) (jobs-start s x (pre .image-is)) (tables-low s x (pre .image-is))
-            (jobs-stored s (pre .formed) .hopped) id gone gone-found in
-            let n₂ = end-is (codes (row short reference)) reference-row x (intents-at s) (roots-at s) (intents-bytes s) (s .roots) (from-pins s) (tables-here s x (pre .image-is)) refl (tables-low s x (pre .image-is))
-            (roots-stored s (pre .formed) .hopped) root spot spot-found in
-            let l₁ : length (roots-bytes s) ≡ length before-root + (length at-root + length after-root) =
-            ap length (bytes-split reference-row root (s .roots)) ∙ length-append before-root (at-root ++ after-root) ∙ ap (λ (n : ℕ). length before-root + n) (length-append at-root after-root) in
-            let l₂ : length between ≡ length after-root + (length (pins-bytes s) + (length (reservations-bytes s) + (length (leases-bytes s) + length before-job))) =
-            lengths after-root (pins-bytes s) (reservations-bytes s) (leases-bytes s) before-job in
-            run-to x between (at-job ++ after-job) (spot .end) (gone .start - spot .end) (d ∙ e) (omega arith)
+        module _ (row stored : List ℕ) (row-is : row ≡ run x (place .start) (place .end - place .start)) (stored-is : stored ≡ run x (gone .start) (gone .end - gone .start))
+            (stands : Bool) (compared : stands ≡ inputStands row root′ q (length id′ + 60))
           where
-            seam : (a b c d e f : List ℕ) → a ++ (b ++ (c ++ (d ++ (e ++ f)))) ≡ (a ++ (b ++ (c ++ (d ++ e)))) ++ f
-            seam a b c d e f = simp append-assoc
+            abbrev sought : Seen
+            sought = seek (codesOf (shape job)) (tableIn jobs c .count) id′ (drop (tableIn jobs c .at) x)
 
-            lengths : (a b c d e : List ℕ) → length (a ++ (b ++ (c ++ (d ++ e)))) ≡ length a + (length b + (length c + (length d + length e)))
-            lengths a b c d e = simp length-append
+            abbrev tests : List Refusal
+            tests = publishTests x c q y g a stored stands
 
-        roots-then : before-root ++ ((enc-text root ++ output-bytes) ++ after-root) ≡ all reference-row (insert root output (s .roots))
-        unfolding enc
-        roots-then = sym (bytes-insert reference-row root output (s .roots))
+            abbrev rule : Rule
+            rule = act s (actionOf q (PublicationAction.PublishCollection a)) (contextOf y) (faultsOf g)
 
-        pub published-body : (n m : ℕ) → n ≡ spot .start - c .intents .at → m ≡ gone .start - spot .end
-            → gatherOf x q (0 ∷ c .intents .at ∷ n ∷ 1 ∷ r-at ∷ (length root′ + 1) ∷ 1 ∷ start ∷ size ∷ 0 ∷ spot .end ∷ m ∷ 0 ∷ gone .end ∷ length x ∷ [])
-            ≡ from-intents (collection-published s token output)
-        published-body n m hn hm =
-            let i : c .intents .at ≡ intents-at s = ap (λ (k : Contents). k .intents .at) (pre .opened) in
-            let e₁ = run-ahead (codes (row short reference)) reference-row x (intents-at s) (roots-at s) (intents-bytes s) (s .roots) (from-pins s) (tables-here s x (pre .image-is)) refl (tables-low s x (pre .image-is))
-            (roots-stored s (pre .formed) .hopped) root spot spot-found in
-            let e₂ = run-behind (codes job) job-row x (intents-at s) (jobs-at s) (before-jobs s []) (s .collection-jobs) [] (jobs-here s x (pre .image-is)) (jobs-start s x (pre .image-is)) (tables-low s x (pre .image-is))
-            (jobs-stored s (pre .formed) .hopped) id gone gone-found ∙ append-nil after-job in
-            (λ j. run x (i j) ((hn ∙ ap (λ (k : ℕ). spot .start - k) i) j) ++ (root-run j ++ (output-run j ++ ((ap (run x (spot .end)) hm ∙ run-between) j ++ append-nil (run x (gone .end) (length x)) j))))
-            ∙ (λ j. e₁ j ++ (enc-text root ++ (output-bytes ++ (between ++ e₂ j))))
-            ∙ joined (intents-bytes s) before-root (enc-text root) output-bytes after-root (pins-bytes s) (reservations-bytes s) (leases-bytes s) before-job after-job
-            ∙ (λ j. intents-bytes s ++ (roots-then j ++ (pins-bytes s ++ (reservations-bytes s ++ (leases-bytes s ++ sym (bytes-remove job-row id (s .collection-jobs) (jobs-stored s (pre .formed) .ascending)) j)))))
+            there : eqb (length stored) 0 ≡ false → Held (pre .holds) (pre .formed) jobs job-found
+            there e = held (pre .holds) (pre .formed) jobs job-found (row-some x sought gone gone-at stored stored-is (eqb-false _ _ e))
+
+            equal : (v : Held (pre .holds) (pre .formed) jobs job-found) → sameOf stored (take (tokenEnd q - 27) (drop 27 q)) ≡ job-eq (v .value) token
+            equal v = (λ i. sameOf ((stored-is ∙ v .row) i) (token-run i)) ∙ same-job (v .value) token (v .within) (pre .within .1 .0)
+
+            stands-is : stands ≡ same-option reference-eq (lookup root (s .roots)) (some input)
+            stands-is =
+                compared ∙ ap (λ (l : List ℕ). inputStands row root′ q (length l + 60)) id-is
+                ∙ input-stands (pre .holds) (pre .formed) root-found row row-is root′ root-is q (length id + 60) input after-input input-here input-low (pre .within .1 .0 .1 .1 .1 .1 .0)
+
+            tests-agree : Agrees tests rule
+            unfolding act publish-collection
+            tests-agree =
+                refl
+                then manifests
+                then (
+                  λ e. missing (pre .holds) (pre .formed) jobs job-found (row-none x sought gone gone-at stored stored-is (eqb-true _ _ e)),
+                  λ e.
+                      let v = there e in (
+                        v .value,
+                        v .looked,
+                        (
+                          ap not (equal v),
+                          λ z.
+                              let t : token ≡ v .value = sym (job-sound (v .value) token (not-false _ z)) in
+                              ap (λ (w : CollectionJobToken). not (eqb (w .owner-generation) (y .generation))) t
+                              then (λ i. not (g .«ignore_collection_range_epoch») && not (eqb (t i .range-map-epoch) (number-is (pre .holds) 10 i)))
+                              then (λ i. not (same-option same (pre .holds .root-text i) (some (t i .destination-root))))
+                              then (λ i. not (eqb (t i .expected-collected-through) (number-is (pre .holds) 7 i)))
+                              then (λ i. not (g .«ignore_collection_input_root») && not ((stands-is ∙ ap (λ (w : CollectionJobToken). same-option reference-eq (lookup (w .destination-root) (s .roots)) (some (w .input-manifest))) t) i))
+                              then reserved-here (pre .holds) (pre .formed) (receipt .object-keys)
+                              then tt,
+                        ),
+                      ),
+                )
+
+            module _ (n : ℕ) (told : n ≡ firstOf tests) where
+              pub publish-refused : (n ≡ 0 → ⊥) → ruled pre ≡ rejected n
+              publish-refused = first-refuses tests rule tests-agree n told
+
+              pub published : n ≡ 0 → ruled pre ≡ accepted (collection-published s token output) (CollectionPublished receipt)
+              unfolding act publish-collection decide
+              published z =
+                  let passed = first-passed tests rule tests-agree n told z in
+                  let v = there (passed .1 .1 .0) in
+                  let t = job-sound (v .value) token (sym (equal v) ∙ not-false _ (passed .1 .1 .1 .0)) in
+                  first-decides tests rule tests-agree n told z _ (token, v .looked ∙ ap some t, refl)
+
+        -- ---- what is written
+
+        module _ (r-at : ℕ) (r-at-is : r-at ≡ manifestEnd q (length id′ + 60)) (start : ℕ) (start-at : start ≡ tokenEnd q)
+            (stop : ℕ) (stop-is : stop ≡ manifestEnd q start) (size : ℕ) (size-told : size ≡ stop - start)
           where
-            joined : (a b c d e f g h i j : List ℕ) → (a ++ b) ++ (c ++ (d ++ ((e ++ (f ++ (g ++ (h ++ i)))) ++ j))) ≡ a ++ ((b ++ ((c ++ d) ++ e)) ++ (f ++ (g ++ (h ++ (i ++ j)))))
-            joined a b c d e f g h i j = simp append-assoc
+            output-size : size ≡ length output-bytes
+            output-size =
+                let e = manifest-end q (tokenEnd q) output keys-bytes output-here output-low in
+                size-told ∙ (λ i. (stop-is ∙ ap (manifestEnd q) start-at) i - start-at i) ∙ omega (arith, e)
 
-        module _ (more left : Table) (grown : more ≡ afterInsert (c .roots) spot (length root′ + 1 + size)) (shrunk : left ≡ afterRemove (c .jobs) gone) where
-          abbrev contents-then : Contents → Contents
-          contents-then k = contentsAfter k (y .position .term) (y .position .index) (token .frozen-floor) (k .scalars .«collection_root») more left
+            output-run : run q start size ≡ output-bytes
+            output-run = run-to q output-bytes keys-bytes start size (ap (λ (n : ℕ). drop n q) start-at ∙ output-here) output-size
 
-          roots-shown : Shown more (all reference-row (insert root output (s .roots))) (length (insert root output (s .roots)))
-          roots-shown =
-              subst (λ (t : Table). Shown t (all reference-row (insert root output (s .roots))) (length (insert root output (s .roots)))) (sym grown)
-              (insert-shown (codes (row short reference)) reference-row x (intents-at s) (roots-at s) (intents-bytes s) (s .roots) (from-pins s) (tables-here s x (pre .image-is)) refl (tables-low s x (pre .image-is))
-              (roots-stored s (pre .formed) .hopped) root spot spot-found reference-long (roots-stored s (pre .formed) .ascending) (c .roots)
-              (ap (λ (k : Contents). k .roots .size) (pre .opened)) (ap (λ (k : Contents). k .roots .count) (pre .opened)) output (length root′ + 1 + size) row-size)
+            root-run : run q r-at (length root′ + 1) ≡ enc-text root
+            unfolding enc-text
+            root-run =
+                let e = manifest-end q (length id + 60) input after-input input-here input-low in
+                let r : r-at ≡ length id + 60 + length (enc reference (reference-parts input)) = r-at-is ∙ ap (λ (l : List ℕ). manifestEnd q (length l + 60)) id-is ∙ e in
+                let d : drop r-at q ≡ after-input = after-seam q (enc reference (reference-parts input)) after-input (length id + 60) r-at input-here r in
+                run-to q (enc-text root) (token-rest ++ (output-bytes ++ keys-bytes)) r-at (length root′ + 1) d (let l = ap length root-is in omega arith)
 
-          jobs-shown : Shown left (all job-row (remove id (s .collection-jobs))) (length (remove id (s .collection-jobs)))
-          jobs-shown =
-              subst (λ (t : Table). Shown t (all job-row (remove id (s .collection-jobs))) (length (remove id (s .collection-jobs)))) (sym shrunk)
-              (job-gone s x (pre .image-is) (pre .formed) c (pre .opened) id gone (gone-at ∙ ap (jobPlace x c) id-is))
+            row-size : length root′ + 1 + size ≡ length (row-bytes roots (root ⟼ output))
+            unfolding enc enc-text
+            row-size = let l = ap length root-is in omega (arith, output-size, length-append (enc-text root) output-bytes)
 
-          pub published-shows : (c′ : Contents) → c′ ≡ contents-then c → Shows x q 0 c′ (set-revision (positionOf (y .position)) (collection-published s token output))
-          published-shows c′ e =
-              subst (λ (k : Contents). Shows x q 0 k (set-revision (positionOf (y .position)) (collection-published s token output))) (sym (e ∙ ap contents-then (pre .opened)))
-              (after-shows s x q 0 (y .position .term) (y .position .index) (token .frozen-floor) (s .collection-root) (insert root output (s .roots)) (remove id (s .collection-jobs))
-              (contentsOf s .scalars .«collection_root») more left (root-here s x (pre .image-is) q) (root-size-here s) roots-shown jobs-shown)
+            pub name-fits : length root′ + 1 ≤ 65
+            name-fits = let l = ap length root-is in omega (arith, publish-short .1)
 
-          pub published-small : (c′ : Contents) → c′ ≡ contents-then c → Small c′
-          published-small c′ e =
-              let h = small-here s (pre .formed) in
-              let z = insert-fits in
-              let m : more .size ≡ c .roots .size - (spot .end - spot .start) + (length root′ + 1 + size) = ap (λ (t : Table). t .size) grown in
-              let l : left .size ≡ c .jobs .size - (gone .end - gone .start) = ap (λ (t : Table). t .size) shrunk in
-              let k : c .jobs .size ≡ length (jobs-bytes s) = ap (λ (k : Contents). k .jobs .size) (pre .opened) in
-              subst Small (sym (e ∙ ap contents-then (pre .opened)))
-              (omega (arith, h .0), omega (arith, h .1), omega (arith, z .0, z .2), omega (arith, h .3), omega (arith, h .4), omega (arith, h .5), omega (arith, h .6))
+            pub size-fits : size ≤ 8000
+            size-fits = omega (arith, output-size, long, length-append output-bytes keys-bytes, request-bounded pre)
+
+            pub insert-fits : (tableIn roots c .size ≤ longest) × (tableIn roots c .count ≤ longest) × (length root′ + 1 + size ≤ longest)
+            insert-fits = let z = table-bounds (pre .holds) roots in (omega (arith, z .0, pre .short), omega (arith, z .1, pre .short), omega (arith, name-fits, size-fits))
+
+            -- the rows around both places
+            abbrev before-root : List ℕ
+            before-root = all (row-bytes roots) (ahead root (s .roots))
+
+            abbrev after-root : List ℕ
+            after-root = all (row-bytes roots) (behind root (s .roots))
+
+            abbrev before-job : List ℕ
+            before-job = all (row-bytes jobs) (ahead id (s .collection-jobs))
+
+            abbrev at-job : List ℕ
+            at-job = all (row-bytes jobs) (at id (s .collection-jobs))
+
+            abbrev after-job : List ℕ
+            after-job = all (row-bytes jobs) (behind id (s .collection-jobs))
+
+            abbrev between : List ℕ
+            between = after-root ++ (table-of pins s .bytes ++ (table-of reservations s .bytes ++ (table-of leases s .bytes ++ before-job)))
+
+            run-between : run x (place .end) (gone .start - place .end) ≡ between
+            run-between =
+                let root-spot = spot (pre .holds) (pre .formed) roots root-found in
+                let job-spot = spot (pre .holds) (pre .formed) jobs job-found in
+                let d : drop (place .end) x ≡ between ++ (at-job ++ (after-job ++ [])) =
+                past-place root-spot
+                ∙ ap (λ (l : List ℕ). after-root ++ (table-of pins s .bytes ++ (table-of reservations s .bytes ++ (table-of leases s .bytes ++ (l ++ []))))) (bytes-split (row-bytes jobs) id (s .collection-jobs))
+                ∙ seam after-root (table-of pins s .bytes) (table-of reservations s .bytes) (table-of leases s .bytes) before-job at-job after-job in
+                let l₁ = sym (length-drop (place .end) x) ∙ ap length d ∙ length-append between (at-job ++ (after-job ++ [])) in
+                let l₂ = sym (length-drop (gone .start) x) ∙ ap length (from-place job-spot) in
+                let z₁ = place-low root-spot in
+                let z₂ = place-low job-spot in
+                run-to x between (at-job ++ (after-job ++ [])) (place .end) (gone .start - place .end) d (omega (arith, z₁ .2, z₂ .1, z₂ .2))
+              where
+                seam : (a b c d e f g : List ℕ) → a ++ (b ++ (c ++ (d ++ ((e ++ (f ++ g)) ++ [])))) ≡ (a ++ (b ++ (c ++ (d ++ e)))) ++ (f ++ (g ++ []))
+                seam a b c d e f g = simp append-assoc
+
+            pub published-body : (n m : ℕ) → n ≡ place .start - tablesAt c → m ≡ gone .start - place .end
+                → gatherOf x q (0 ∷ tablesAt c ∷ n ∷ 1 ∷ r-at ∷ (length root′ + 1) ∷ 1 ∷ start ∷ size ∷ 0 ∷ place .end ∷ m ∷ 0 ∷ gone .end ∷ length x ∷ [])
+                ≡ joined (tables-of (collection-published s token output))
+            unfolding enc
+            published-body n m hn hm =
+                let root-spot = spot (pre .holds) (pre .formed) roots root-found in
+                let job-spot = spot (pre .holds) (pre .formed) jobs job-found in
+                (λ j. (ap (run x (tablesAt c)) hn ∙ run-ahead root-spot) j ++ (root-run j ++ (output-run j ++ ((ap (run x (place .end)) hm ∙ run-between) j ++ (run-behind job-spot j ++ [])))))
+                ∙ in-order (table-of intents s .bytes) before-root (enc-text root) output-bytes after-root (table-of pins s .bytes) (table-of reservations s .bytes) (table-of leases s .bytes) before-job after-job
+                ∙ (λ j. table-of intents s .bytes ++ (sym (bytes-insert (row-bytes roots) root output (s .roots)) j ++ (table-of pins s .bytes ++ (table-of reservations s .bytes ++ (table-of leases s .bytes
+                ++ (sym (bytes-remove (row-bytes jobs) id (s .collection-jobs) (stored-in jobs s (pre .formed) .ascending)) j ++ []))))))
+              where
+                in-order : (a b c d e f g h i j : List ℕ) → ((a ++ []) ++ b) ++ (c ++ (d ++ ((e ++ (f ++ (g ++ (h ++ i)))) ++ ((j ++ []) ++ [])))) ≡ a ++ ((b ++ ((c ++ d) ++ e)) ++ (f ++ (g ++ (h ++ ((i ++ j) ++ [])))))
+                in-order a b c d e f g h i j = simp (append-assoc, append-nil)
+
+            module _ (more left : Table) (grown : more ≡ afterInsert (tableIn roots c) place (length root′ + 1 + size)) (shrunk : left ≡ afterRemove (tableIn jobs c) gone)
+                (d : Contents) (is-raised : d ≡ raised c (y .position))
+              where
+                abbrev contents-with : Contents → Table → Table → Contents
+                contents-with k t u = withTables (collectedTo k (token .frozen-floor)) (set (set (k .tables) 1 t) 5 u)
+
+                contents-are : contents-with d more left ≡ contents-with (raised c (y .position)) (afterInsert (tableIn roots c) place (length root′ + 1 + size)) (afterRemove (tableIn jobs c) gone)
+                contents-are = λ i. contents-with (is-raised i) (grown i) (shrunk i)
+
+                abbrev roots-then : Map ObjectReference
+                roots-then = insert root output (s .roots)
+
+                abbrev jobs-then : Map CollectionJobToken
+                jobs-then = remove id (s .collection-jobs)
+
+                job-measured : measureIn (afterRemove (tableIn jobs c) gone) ≡ record { size = length (all (row-bytes jobs) jobs-then); count = length jobs-then }
+                job-measured =
+                    let job-spot = spot (pre .holds) (pre .formed) jobs job-found in
+                    λ i. record {
+                      size = (ap (λ (n : ℕ). n - (gone .end - gone .start)) (size-is (pre .holds) jobs) ∙ remove-size job-spot) i;
+                      count = (ap (λ (n : ℕ). cond (ltb (gone .start) (gone .end)) (n - 1) n) (count-is (pre .holds) jobs) ∙ remove-count job-spot) i;
+                    }
+
+                pub published-shows : Shows x (contents-with d more left) (set-revision (positionOf (y .position)) (collection-published s token output))
+                published-shows =
+                    let gone-then = afterRemove (tableIn jobs c) gone in
+                    let rooted = set (c .tables) 1 (afterInsert (tableIn roots c) place (length root′ + 1 + size)) in
+                    let e = inserted-shown (pre .holds) (pre .formed) roots root-found output (length root′ + 1 + size) row-size in
+                    subst (λ (k : Contents). Shows x k (set-revision (positionOf (y .position)) (collection-published s token output))) (sym contents-are)
+                    (shows-raised (shows-collected (shows-map (shows-map (pre .holds .shows) roots roots-then rooted e) jobs jobs-then (set rooted 5 gone-then)
+                    (measures-set rooted 5 gone-then ∙ (λ i. set (e i) 5 (job-measured i)) ∙ sym (measures-with jobs jobs-then (set-roots roots-then s)))) (token .frozen-floor)) (y .position))
+
+                pub published-small : Small (contents-with d more left)
+                published-small =
+                    let k = small-held (pre .formed) (pre .holds) (pre .short) in
+                    let z = insert-fits in
+                    subst Small (sym contents-are)
+                    (small-table (small-table (small-scalars k (collectedTo (raised c (y .position)) (token .frozen-floor) .scalars) (k .root)) 1 _ (omega (arith, z .0, z .2))) 5 _ (omega (arith, table-bounds (pre .holds) jobs .0, pre .short)))

@@ -1,14 +1,14 @@
 // Collection jobs: published.
 ghost use mathlib.Core.Path.{_≡_};
 ghost use Prim.Native.Nat.{_≤_};
-ghost use mathlib.Core.Bool.{not, _&&_};
 ghost use lib.ListN.{length};
 ghost use Rattle.parts.specs.Answer.{Gave};
+ghost use Rattle.machine.specs.Tests.{firstOf};
 ghost use Rattle.entries.specs.Bytes.{applyBytes};
 ghost use Rattle.requests.specs.Meaning.{textOf};
 ghost use Rattle.requests.specs.declared.PublicationAction.{PublicationAction};
 ghost use Rattle.next.specs.Call.{Ready};
-ghost use Rattle.collection_publish.specs.Refusals.{sameManifest, receiptRefusal, publishRefusal};
+ghost use Rattle.collection_publish.specs.Tests.{sameManifest, receiptTests, publishTests};
 use image::Contents;
 use next::PublicationOutcome;
 use parts::Applied;
@@ -20,27 +20,20 @@ use requests::PublicationAuthorityFaults;
 fn same_manifest(request: &[u8], a: usize, b: usize) -> bool
     ensures { λ r. ⌜ r ≡ sameManifest (now (request .entry)) a b ⌝ }
 {
-    let manifest = [9u8, 128, 8, 64];
-    let a_end = tables::skip_record(&manifest, request, a);
-    let b_end = tables::skip_record(&manifest, request, b);
+    let a_end = tables::skip_record(&image::REFERENCE, request, a);
+    let b_end = tables::skip_record(&image::REFERENCE, request, b);
     text::same(
         parts::clip(request, a, parts::less(a_end, a)),
         parts::clip(request, b, parts::less(b_end, b)),
     )
 }
 
-// The number of the first test that a receipt does not pass by itself and by its job, or 0.
-fn receipt_refusal(
-    image: &[u8],
-    c: Contents,
-    request: &[u8],
-    x: AuthorityContext,
-    a: CollectionReceipt,
-) -> u32
+// The status of the first test of a receipt by itself and by its job that refuses it; 0 where none does. No row is stored where
+// the job is not found.
+fn receipt_refusal(request: &[u8], x: AuthorityContext, a: CollectionReceipt, stored: &[u8]) -> u32
     requires { ⌜ length (textOf (now request) (a .token .«job_id»)) ≤ 64 ⌝ }
-    ensures { λ r. ⌜ r ≡ receiptRefusal (now (image .entry)) c (now (request .entry)) x a ⌝ }
+    ensures { λ r. ⌜ r ≡ firstOf (receiptTests (now (request .entry)) x a (now (stored .entry))) ⌝ }
 {
-    let jobs = c.jobs;
     let token = a.token;
     let t = token.job_id;
     if !records::valid_receipt(request, a) {
@@ -52,7 +45,6 @@ fn receipt_refusal(
     if same_manifest(request, end, id.len() + 60) {
         return 2;
     }
-    let stored = tables::find(&image::JOB, image, jobs.at, jobs.count, id);
     if stored.len() == 0 {
         return 30;
     }
@@ -65,17 +57,7 @@ fn receipt_refusal(
     0
 }
 
-// The input does not stand, and a fault flag does not say to pass over it.
-fn other_input(ignore: bool, stands: bool) -> bool
-    ensures { λ r. ⌜ r ≡ not ignore && not stands ⌝ }
-{
-    if ignore {
-        return false;
-    }
-    !stands
-}
-
-// The number of the first test that a receipt does not pass, or 0.
+// The status of the first test that refuses a receipt; 0 where none does.
 fn publish_refusal(
     image: &[u8],
     c: Contents,
@@ -83,17 +65,18 @@ fn publish_refusal(
     x: AuthorityContext,
     f: PublicationAuthorityFaults,
     a: CollectionReceipt,
+    stored: &[u8],
+    stands: bool,
 ) -> u32
-    requires { ⌜ (length (textOf (now request) (a .token .«job_id»)) ≤ 64) × (length (textOf (now request) (a .token .«destination_root»)) ≤ 64) ⌝ }
-    ensures { λ r. ⌜ r ≡ publishRefusal (now (image .entry)) c (now (request .entry)) x f a ⌝ }
+    requires { ⌜ length (textOf (now request) (a .token .«job_id»)) ≤ 64 ⌝ }
+    ensures { λ r. ⌜ r ≡ firstOf (publishTests (now (image .entry)) c (now (request .entry)) x f a (now (stored .entry)) stands) ⌝ }
 {
-    let roots = c.roots;
-    let reservations = c.reservations;
+    let tables = c.tables;
+    let reservations = tables[image::RESERVATIONS];
     let token = a.token;
     let keys = a.object_keys;
-    let t = token.job_id;
     let u = token.destination_root;
-    let first = receipt_refusal(image, c, request, x, a);
+    let first = receipt_refusal(request, x, a, stored);
     if first != 0 {
         return first;
     }
@@ -109,10 +92,7 @@ fn publish_refusal(
     if old != 0 {
         return old;
     }
-    let id = parts::clip(request, t.at, t.len);
-    let root = parts::clip(request, u.at, u.len);
-    let stands = collection_jobs::input_stands(image, roots, root, request, id.len() + 60);
-    if other_input(f.ignore_collection_input_root, stands) {
+    if collection_jobs::other_input(f.ignore_collection_input_root, stands) {
         return 7;
     }
     if reserved::is_reserved(false, image, reservations, request, keys.at) {
@@ -134,35 +114,43 @@ pub fn publish_collection(
     requires { ⌜ Ready (now image) c (now request) (record { context = x; faults = f; action = PublicationAction.PublishCollection a }) ⌝ }
     ensures { λ r. ⌜ Gave (applyBytes (now (image .entry)) (now (request .entry)) (length (now (next .entry))) (length (now (outcome .entry)))) (now (next .entry)) (now (outcome .entry)) r (now (next .exit)) (now (outcome .exit)) ⌝ }
 {
-    let n = c.scalars;
-    let old = n.collection_root;
-    let roots = c.roots;
-    let jobs = c.jobs;
+    let tables = c.tables;
+    let roots = tables[image::ROOTS];
+    let jobs = tables[image::JOBS];
     let token = a.token;
     let t = token.job_id;
     let u = token.destination_root;
-    let status = publish_refusal(image, c, request, x, f, a);
+    let id = parts::clip(request, t.at, t.len);
+    let root = parts::clip(request, u.at, u.len);
+    let spot = tables::locate(&image::REFERENCE_ROW, image, roots.at, roots.count, root);
+    let gone = tables::locate(&image::JOB, image, jobs.at, jobs.count, id);
+    let held = tables::row(image, spot);
+    let stored = tables::row(image, gone);
+    let stands = collection_jobs::input_stands(held, root, request, id.len() + 60);
+    let status = publish_refusal(image, c, request, x, f, a, stored, stands);
     if status != 0 {
         return parts::refuse(status);
     }
-    let manifest = [9u8, 128, 8, 64];
-    let id = parts::clip(request, t.at, t.len);
-    let root = parts::clip(request, u.at, u.len);
     // the root stands after the token's manifest, and the new manifest after the token
-    let root_at = tables::skip_record(&manifest, request, id.len() + 60);
+    let root_at = tables::skip_record(&image::REFERENCE, request, id.len() + 60);
     let start = tables::skip_record(&image::JOB, request, 27);
-    let size = parts::less(tables::skip_record(&manifest, request, start), start);
-    let place = tables::locate(&image::REFERENCE, image, roots.at, roots.count, root);
-    let gone = tables::locate(&image::JOB, image, jobs.at, jobs.count, id);
+    let size = parts::less(
+        tables::skip_record(&image::REFERENCE, request, start),
+        start,
+    );
     let name = root.len() + 1;
-    let more = edits::after_insert(roots, place, name + size);
+    let more = edits::after_insert(roots, spot, name + size);
     let left = edits::after_remove(jobs, gone);
-    let c2 = collection::contents_after(c, x, token.frozen_floor, old, more, left);
-    let ahead = parts::less(place.start, c.intents.at);
-    let between = parts::less(gone.start, place.end);
+    let mut d = next::raised(c, x.position);
+    d.scalars.physically_collected_through = token.frozen_floor;
+    d.tables[image::ROOTS] = more;
+    d.tables[image::JOBS] = left;
+    let begin = tables[image::INTENTS];
+    let ahead = parts::less(spot.start, begin.at);
+    let between = parts::less(gone.start, spot.end);
     let body = [
         0,
-        c.intents.at,
+        begin.at,
         ahead,
         1,
         root_at,
@@ -171,12 +159,12 @@ pub fn publish_collection(
         start,
         size,
         0,
-        place.end,
+        spot.end,
         between,
         0,
         gone.end,
         image.len(),
     ];
     let told = PublicationOutcome::CollectionPublished(a);
-    next::emit(0, c2, image, request, &body, image, told, next, outcome)
+    next::emit(image, d, image, request, &body, image, told, next, outcome)
 }

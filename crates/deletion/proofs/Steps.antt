@@ -1,29 +1,26 @@
 -- The tests of a stored permit against a shown one.
 use Prim.Native.Nat.{ℕ}
-use mathlib.Core.List.{List, [], _∷_}
+use mathlib.Core.List.{List}
 use mathlib.Core.Bool.{Bool, true, false, _&&_, _||_}
 use mathlib.Core.Path.{_≡_, refl, sym, ap, _∙_}
 use lib.ListN.{drop}
 use Rattle.state.specs.Maps.{Text, same, any}
-use Rattle.fields.specs.Codes.{Code, codes, skip, codeOf, codesOf}
+use Rattle.fields.specs.Codes.{Code, codes, skip, codesOf, shape, shape-codes}
 use Rattle.fields.specs.Rows.{text-here}
 use Rattle.fields.specs.Walks.{placeOf}
 use Rattle.scans.specs.Scans.{namesAt, usesAt}
-use Rattle.deletion.specs.Permits.{before-plan, matchesOf}
+use Rattle.deletion.specs.Tests.{matchesOf}
 use Rattle.tables.specs.Skips.{after-record}
-
-plan-codes : codesOf (128 ∷ 12 ∷ 64 ∷ 12 ∷ 64 ∷ 8 ∷ 64 ∷ []) ≡ codes before-plan
-unfolding codesOf codeOf codes
-plan-codes = refl
+use Rattle.image.specs.Shapes.{before-plan}
 
 module _ (weak : Bool) (row shown : List ℕ) (plan k : Text) where
   abbrev plan-here : Text
   plan-here = text-here (skip 0 (codes before-plan) row)
 
-  pub plan-told : (t : Text) (a : ℕ) (b : Bool) → a ≡ placeOf row (skip 0 (codesOf (128 ∷ 12 ∷ 64 ∷ 12 ∷ 64 ∷ 8 ∷ 64 ∷ [])) (drop 0 row)) → t ≡ text-here (drop a row) → b ≡ same t plan → same plan-here plan ≡ b
+  pub plan-told : (t : Text) (a : ℕ) (b : Bool) → a ≡ placeOf row (skip 0 (codesOf (shape before-plan)) (drop 0 row)) → t ≡ text-here (drop a row) → b ≡ same t plan → same plan-here plan ≡ b
   plan-told t a b e h f =
       sym (f ∙ ap (λ (u : Text). same u plan) (h ∙ ap (λ (l : List ℕ). text-here l)
-      (ap (λ (j : ℕ). drop j row) (e ∙ ap (λ (cs : List Code). placeOf row (skip 0 cs (drop 0 row))) plan-codes) ∙ after-record (codes before-plan) row 0)))
+      (ap (λ (j : ℕ). drop j row) (e ∙ ap (λ (cs : List Code). placeOf row (skip 0 cs (drop 0 row))) (shape-codes before-plan refl)) ∙ after-record (codes before-plan) row 0)))
 
   pub match-exact : same row shown ≡ true → true ≡ matchesOf weak row shown plan k
   unfolding matchesOf

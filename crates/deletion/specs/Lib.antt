@@ -1,8 +1,4 @@
-pub mod Rules
-pub mod Permits
 pub mod Tests
-pub mod Reservations
-pub mod Retire
+pub mod RevisedLaws
 pub mod RetireCall
-pub mod Reserve
 pub mod ReserveCall

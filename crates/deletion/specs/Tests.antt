@@ -1,79 +1,47 @@
--- Tests in order, the first that holds refusing; those of ReserveDelete, over bytes and over a state.
+-- The tests of ReserveDelete and RetireDelete over the bytes of image and request.
 use Prim.Native.Nat.{ℕ}
-use native.Mathlib.Omega.{arith}
 use mathlib.Core.List.{List, [], _∷_}
-use mathlib.Core.Bool.{Bool, true, false, not, _&&_, cond}
-use mathlib.Core.Path.{_≡_, refl, sym, ap}
-use lib.ListN.{drop}
-use lib.Dec.{eqb}
-use Rattle.state.specs.Maps.{Text, is-empty, any, Every}
-use Rattle.state.specs.Records.{ObjectIdentity, valid-identity}
-use Rattle.fields.specs.Codes.{codes, codesOf}
+use mathlib.Core.Bool.{Bool, not, _&&_, _||_}
+use lib.ListN.{length, drop}
+use lib.Dec.{eqb, ltb}
+use Rattle.state.specs.Maps.{Text, same, is-empty, any}
+use Rattle.state.specs.Records.{valid-identity}
+use Rattle.fields.specs.Codes.{codes, skip, codesOf, shape}
+use Rattle.fields.specs.Rows.{text-here}
 use Rattle.tables.specs.Seek.{rows-at}
-use Rattle.image.specs.Shapes.{job}
+use Rattle.tables.specs.declared.Place.{Place}
+use Rattle.image.specs.Shapes.{job, lease, before-closure-keys, before-intent-keys, before-plan}
+use Rattle.image.specs.Layout.{intents, leases, jobs, row-format}
+use Rattle.image.specs.TableLaws.{tableIn}
 use Rattle.image.specs.declared.Contents.{Contents}
-use Rattle.machine.specs.Actions.{Rule, refuse-or, rejected, decide}
+use Rattle.machine.specs.Tests.{Refusal, _when_}
 use Rattle.requests.specs.Meaning.{textOf, identityOf}
 use Rattle.requests.specs.declared.PublicationAuthorityFaults.{PublicationAuthorityFaults}
 use Rattle.requests.specs.declared.ReserveDelete.{ReserveDelete}
 use Rattle.scans.specs.Scans.{namesAt, usesAt}
 
-infix 10 _when_
-pub data Refusal : Type 0 where
-  _when_ : ℕ → Bool → Refusal
-
-unfoldable pub firstOf : List Refusal → ℕ
-firstOf [] = 0
-firstOf ((n when b) ∷ ts) = cond b n (firstOf ts)
-
-abbrev pub tested : List Refusal → Rule → Rule
-tested [] r = r
-tested ((n when b) ∷ ts) r = refuse-or n b (tested ts r)
-
--- a status is not 0
-abbrev pub Status : Refusal → Type 0
-Status (n when b) = n ≡ 0 → ⊥
-
-pub first-stops : (ts : List Refusal) (r : Rule) → (firstOf ts ≡ 0 → ⊥) → decide (tested ts r) ≡ rejected (firstOf ts)
-unfolding firstOf decide
-first-stops [] r h = absurd (h refl)
-first-stops ((n when true) ∷ ts) r h = refl
-first-stops ((n when false) ∷ ts) r h = first-stops ts r h
-
-pub first-passes : (ts : List Refusal) (r : Rule) → Every Status ts → firstOf ts ≡ 0 → decide (tested ts r) ≡ decide r
-unfolding firstOf decide
-first-passes [] r z h = refl
-first-passes ((n when true) ∷ ts) r z h = absurd (z .0 h)
-first-passes ((n when false) ∷ ts) r z h = first-passes ts r (z .1) h
-
--- one test more
-pub first-here : (n : ℕ) (b : Bool) (ts : List Refusal) → b ≡ true → n ≡ firstOf ((n when b) ∷ ts)
-unfolding firstOf
-first-here n b ts h = sym (ap (λ (c : Bool). cond c n (firstOf ts)) h)
-
-pub first-on : (n : ℕ) (b : Bool) (ts : List Refusal) → b ≡ false → firstOf ts ≡ firstOf ((n when b) ∷ ts)
-unfolding firstOf
-first-on n b ts h = sym (ap (λ (c : Bool). cond c n (firstOf ts)) h)
-
-pub first-none : 0 ≡ firstOf []
-unfolding firstOf
-first-none = refl
-
--- THE TESTS OF ReserveDelete before the one of the reservations
-abbrev pub testsOf : (plan key : Text) (identity : ObjectIdentity) (ignored : Bool) (mark epoch : ℕ) (intents leases jobs : Bool) → List Refusal
-testsOf plan key identity ignored mark epoch intents leases jobs =
-    (2 when is-empty plan) ∷ (2 when is-empty key) ∷ (2 when not (valid-identity identity)) ∷ (9 when not ignored && not (eqb mark epoch))
-    ∷ (11 when intents) ∷ (11 when leases) ∷ (11 when jobs) ∷ []
-
-pub statuses : (plan key : Text) (identity : ObjectIdentity) (ignored : Bool) (mark epoch : ℕ) (intents leases jobs : Bool) → Every Status (testsOf plan key identity ignored mark epoch intents leases jobs)
-statuses plan key identity ignored mark epoch intents leases jobs =
-    ((λ e. omega arith), ((λ e. omega arith), ((λ e. omega arith), ((λ e. omega arith), ((λ e. omega arith), ((λ e. omega arith), ((λ e. omega arith), tt)))))))
-
--- over the bytes of image and request
-abbrev pub reserveTests : List ℕ → Contents → List ℕ → PublicationAuthorityFaults → ReserveDelete → List Refusal
-reserveTests x c q g a =
+-- the place is that of the key among the reservations
+abbrev pub reserveTests : List ℕ → Contents → List ℕ → PublicationAuthorityFaults → ReserveDelete → Place → List Refusal
+reserveTests x c q g a place =
     let k = textOf q (a .key) in
-    testsOf (textOf q (a .«plan_id»)) k (identityOf q (a .identity)) (g .«ignore_root_epoch») (a .«mark_epoch») (c .scalars .«root_intent_epoch»)
-    (any (namesAt (codesOf (64 ∷ 8 ∷ [])) k) (rows-at (codesOf (64 ∷ 8 ∷ 10 ∷ 9 ∷ 128 ∷ 8 ∷ 64 ∷ 64 ∷ 15 ∷ 9 ∷ 128 ∷ 8 ∷ 64 ∷ [])) (c .intents .count) (drop (c .intents .at) x)))
-    (any (namesAt (codesOf (64 ∷ 64 ∷ 8 ∷ 8 ∷ 64 ∷ 64 ∷ 8 ∷ 9 ∷ 128 ∷ 8 ∷ 64 ∷ [])) k) (rows-at (codesOf (64 ∷ 64 ∷ 8 ∷ 8 ∷ 64 ∷ 64 ∷ 8 ∷ 9 ∷ 128 ∷ 8 ∷ 64 ∷ 10 ∷ 8 ∷ 8 ∷ 8 ∷ [])) (c .leases .count) (drop (c .leases .at) x)))
-    (any (usesAt k) (rows-at (codes job) (c .jobs .count) (drop (c .jobs .at) x)))
+    (2 when is-empty (textOf q (a .«plan_id»)))
+    ∷ (2 when is-empty k)
+    ∷ (2 when not (valid-identity (identityOf q (a .identity))))
+    ∷ (9 when not (g .«ignore_root_epoch») && not (eqb (a .«mark_epoch») (c .scalars .«root_intent_epoch»)))
+    ∷ (11 when any (namesAt (codesOf (shape before-intent-keys)) k) (rows-at (codesOf (shape (row-format intents))) (tableIn intents c .count) (drop (tableIn intents c .at) x)))
+    ∷ (11 when any (namesAt (codesOf (shape before-closure-keys)) k) (rows-at (codesOf (shape lease)) (tableIn leases c .count) (drop (tableIn leases c .at) x)))
+    ∷ (11 when any (usesAt k) (rows-at (codes job) (tableIn jobs c .count) (drop (tableIn jobs c .at) x)))
+    ∷ (12 when ltb (place .start) (place .end))
+    ∷ []
+
+-- a stored permit's row against a shown one: the same bytes, or where that is enough the same plan and key
+unfoldable pub matchesOf : Bool → (row shown : List ℕ) (plan key : Text) → Bool
+matchesOf weak row shown plan k = same row shown || weak && same (text-here (skip 0 (codes before-plan) row)) plan && same (text-here row) k
+
+-- the row is empty where no permit is stored
+abbrev pub retireTests : (row shown : List ℕ) (plan key : Text) (owner generation : ℕ) (weak : Bool) → List Refusal
+retireTests row shown plan k owner generation weak =
+    (13 when eqb (length row) 0)
+    ∷ (14 when not (eqb owner generation))
+    ∷ (15 when not (matchesOf weak row shown plan k))
+    ∷ []

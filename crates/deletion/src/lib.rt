@@ -7,18 +7,16 @@ ghost use Rattle.parts.specs.Answer.{Gave};
 ghost use Rattle.entries.specs.Bytes.{applyBytes};
 ghost use Rattle.requests.specs.declared.PublicationAction.{PublicationAction};
 ghost use Rattle.next.specs.Call.{Ready};
-ghost use Rattle.deletion.specs.Permits.{matchesOf, withReservations};
-ghost use Rattle.deletion.specs.Tests.{firstOf, reserveTests};
+ghost use Rattle.machine.specs.Tests.{firstOf};
+ghost use Rattle.deletion.specs.Tests.{matchesOf, reserveTests, retireTests};
 use image::Contents;
-use image::Scalars;
-use image::Table;
 use next::PublicationOutcome;
 use parts::Applied;
 use requests::AuthorityContext;
-use requests::AuthorityPosition;
 use requests::DeletePermit;
 use requests::PublicationAuthorityFaults;
 use requests::ReserveDelete;
+use tables::Place;
 
 // Whether the stored permit is the one shown; plan and key alone decide where that is asked.
 fn matches(by_plan_key_only: bool, row: &[u8], shown: &[u8], plan: &[u8], key: &[u8]) -> bool
@@ -30,58 +28,16 @@ fn matches(by_plan_key_only: bool, row: &[u8], shown: &[u8], plan: &[u8], key: &
     if !by_plan_key_only {
         return false;
     }
-    let key_and_identity = [128u8, 12, 64, 12, 64, 8, 64];
     if !text::same(
-        fields::text_at(row, tables::skip_record(&key_and_identity, row, 0)),
+        fields::text_at(
+            row,
+            tables::skip_record(&image::PERMIT[..image::PERMIT_PLAN], row, 0),
+        ),
         plan,
     ) {
         return false;
     }
     text::same(fields::text_at(row, 0), key)
-}
-
-// The same contents at another revision, but for the size and the count of the reservations.
-fn with_reservations(c: Contents, p: AuthorityPosition, size: usize, count: usize) -> Contents
-    ensures { λ r. ⌜ r ≡ withReservations c p size count ⌝ }
-{
-    let n = c.scalars;
-    let window = n.retention_window;
-    let root = n.collection_root;
-    let m = Scalars {
-        term: p.term,
-        index: p.index,
-        root_intent_epoch: n.root_intent_epoch,
-        observed_commit_frontier: n.observed_commit_frontier,
-        retention_window: window,
-        retention_policy_epoch: n.retention_policy_epoch,
-        policy_floor: n.policy_floor,
-        minimum_readable_version: n.minimum_readable_version,
-        physically_collected_through: n.physically_collected_through,
-        lease_clock_tick: n.lease_clock_tick,
-        lease_epoch: n.lease_epoch,
-        range_map_epoch: n.range_map_epoch,
-        collection_root: root,
-    };
-    let intents = c.intents;
-    let roots = c.roots;
-    let pins = c.pins;
-    let reservations = Table {
-        at: c.reservations.at,
-        size,
-        count,
-    };
-    let leases = c.leases;
-    let jobs = c.jobs;
-    Contents {
-        format_version: c.format_version,
-        scalars: m,
-        intents,
-        roots,
-        pins,
-        reservations,
-        leases,
-        jobs,
-    }
 }
 
 // Whether the root intent epoch is another than the one that a plan was marked at, where that counts.
@@ -94,23 +50,26 @@ fn epoch_changed(ignored: bool, mark: u64, epoch: u64) -> bool
     mark != epoch
 }
 
-// The status of the first test that refuses a reservation; 0 where none does.
+// The status of the first test that refuses a reservation, 0 where none does; `place` is that of the key among the reservations.
 fn reserve_refusal(
     image: &[u8],
     c: Contents,
     request: &[u8],
     f: PublicationAuthorityFaults,
     a: ReserveDelete,
+    place: Place,
 ) -> u32
-    ensures { λ r. ⌜ r ≡ firstOf (reserveTests (now (image .entry)) c (now (request .entry)) f a) ⌝ }
+    requires { ⌜ length (c .tables) ≡ 6 ⌝ }
+    ensures { λ r. ⌜ r ≡ firstOf (reserveTests (now (image .entry)) c (now (request .entry)) f a place) ⌝ }
 {
     let plan = a.plan_id;
     let k = a.key;
     let identity = a.identity;
     let n = c.scalars;
-    let intents = c.intents;
-    let leases = c.leases;
-    let jobs = c.jobs;
+    let tables = c.tables;
+    let intents = tables[image::INTENTS];
+    let leases = tables[image::LEASES];
+    let jobs = tables[image::JOBS];
     if records::is_empty(request, plan) {
         return 2;
     }
@@ -124,10 +83,9 @@ fn reserve_refusal(
         return 9;
     }
     let key = parts::clip(request, k.at, k.len);
-    let id_and_owner = [64u8, 8];
     if scans::any_names(
         &image::INTENT,
-        &id_and_owner,
+        &image::INTENT[..image::INTENT_KEYS],
         image,
         intents.at,
         intents.count,
@@ -135,10 +93,9 @@ fn reserve_refusal(
     ) {
         return 11;
     }
-    let up_to_keys = [64u8, 64, 8, 8, 64, 64, 8, 9, 128, 8, 64];
     if scans::any_names(
         &image::LEASE,
-        &up_to_keys,
+        &image::LEASE[..image::LEASE_KEYS],
         image,
         leases.at,
         leases.count,
@@ -148,6 +105,33 @@ fn reserve_refusal(
     }
     if scans::any_uses(image, jobs.at, jobs.count, key) {
         return 11;
+    }
+    if place.start < place.end {
+        return 12;
+    }
+    0
+}
+
+// The same for a permit that is to go; `row` is the stored one's, empty where there is none.
+fn retire_refusal(
+    row: &[u8],
+    shown: &[u8],
+    plan: &[u8],
+    key: &[u8],
+    owner: u64,
+    generation: u64,
+    by_plan_key_only: bool,
+) -> u32
+    ensures { λ r. ⌜ r ≡ firstOf (retireTests (now (row .entry)) (now (shown .entry)) (now (plan .entry)) (now (key .entry)) owner generation «by_plan_key_only») ⌝ }
+{
+    if row.len() == 0 {
+        return 13;
+    }
+    if owner != generation {
+        return 14;
+    }
+    if !matches(by_plan_key_only, row, shown, plan, key) {
+        return 15;
     }
     0
 }
@@ -165,31 +149,46 @@ pub fn retire_delete(
     requires { ⌜ Ready (now image) c (now request) (record { context = x; faults = f; action = PublicationAction.RetireDelete a }) ⌝ }
     ensures { λ r. ⌜ Gave (applyBytes (now (image .entry)) (now (request .entry)) (length (now (next .entry))) (length (now (outcome .entry)))) (now (next .entry)) (now (outcome .entry)) r (now (next .exit)) (now (outcome .exit)) ⌝ }
 {
+    let tables = c.tables;
+    let intents = tables[image::INTENTS];
+    let reservations = tables[image::RESERVATIONS];
     let k = a.key;
     let key = parts::clip(request, k.at, k.len);
-    let table = c.reservations;
-    let place = tables::locate(&image::PERMIT, image, table.at, table.count, key);
-    let row = tables::row(image, place);
-    if row.len() == 0 {
-        return parts::refuse(13);
-    }
-    if a.owner_generation != x.generation {
-        return parts::refuse(14);
-    }
+    let place = tables::locate(
+        &image::PERMIT,
+        image,
+        reservations.at,
+        reservations.count,
+        key,
+    );
     let shown = parts::clip(request, 27, request.len());
     let p = a.plan_id;
     let plan = parts::clip(request, p.at, p.len);
-    if !matches(f.retire_by_plan_key_only, row, shown, plan, key) {
-        return parts::refuse(15);
+    let status = retire_refusal(
+        tables::row(image, place),
+        shown,
+        plan,
+        key,
+        a.owner_generation,
+        x.generation,
+        f.retire_by_plan_key_only,
+    );
+    if status != 0 {
+        return parts::refuse(status);
     }
-    let position = x.position;
-    let left = parts::less(table.size, row.len());
-    let count = parts::less(table.count, 1);
-    let c2 = with_reservations(c, position, left, count);
-    let ahead = parts::less(place.start, c.intents.at);
-    let body = [0, c.intents.at, ahead, 0, place.end, image.len()];
+    let after = edits::after_remove(reservations, place);
+    let mut d = next::revised(c, x.position);
+    d.tables[image::RESERVATIONS] = after;
+    let body = [
+        0,
+        intents.at,
+        parts::less(place.start, intents.at),
+        0,
+        place.end,
+        image.len(),
+    ];
     let told = PublicationOutcome::Applied;
-    next::emit(0, c2, image, request, &body, image, told, next, outcome)
+    next::emit(image, d, image, request, &body, image, told, next, outcome)
 }
 
 pub fn reserve_delete(
@@ -205,16 +204,21 @@ pub fn reserve_delete(
     requires { ⌜ Ready (now image) c (now request) (record { context = x; faults = f; action = PublicationAction.ReserveDelete a }) ⌝ }
     ensures { λ r. ⌜ Gave (applyBytes (now (image .entry)) (now (request .entry)) (length (now (next .entry))) (length (now (outcome .entry)))) (now (next .entry)) (now (outcome .entry)) r (now (next .exit)) (now (outcome .exit)) ⌝ }
 {
-    let status = reserve_refusal(image, c, request, f, a);
-    if status != 0 {
-        return parts::refuse(status);
-    }
+    let tables = c.tables;
+    let intents = tables[image::INTENTS];
+    let reservations = tables[image::RESERVATIONS];
     let k = a.key;
     let key = parts::clip(request, k.at, k.len);
-    let table = c.reservations;
-    let place = tables::locate(&image::PERMIT, image, table.at, table.count, key);
-    if place.start < place.end {
-        return parts::refuse(12);
+    let place = tables::locate(
+        &image::PERMIT,
+        image,
+        reservations.at,
+        reservations.count,
+        key,
+    );
+    let status = reserve_refusal(image, c, request, f, a, place);
+    if status != 0 {
+        return parts::refuse(status);
     }
     // the request has plan, mark, key and identity; a permit has key, identity, plan, generation and position
     let p = a.plan_id;
@@ -223,17 +227,13 @@ pub fn reserve_delete(
     let start = 35 + plan_size;
     let size = parts::less(request.len(), start);
     let position = x.position;
-    let c2 = with_reservations(
-        c,
-        position,
-        table.size + (size + plan_size + 24),
-        table.count + 1,
-    );
-    let ahead = parts::less(place.start, c.intents.at);
+    let after = edits::after_insert(reservations, place, size + plan_size + 24);
+    let mut d = next::revised(c, position);
+    d.tables[image::RESERVATIONS] = after;
     let body = [
         0,
-        c.intents.at,
-        ahead,
+        intents.at,
+        parts::less(place.start, intents.at),
         1,
         start,
         size,
@@ -261,5 +261,5 @@ pub fn reserve_delete(
         owner_generation: x.generation,
         authority_position: position,
     });
-    next::emit(0, c2, image, request, &body, image, told, next, outcome)
+    next::emit(image, d, image, request, &body, image, told, next, outcome)
 }

@@ -1,3 +1,2 @@
 pub mod Changes
-pub mod ChangeLaws
-pub mod Splices
+pub mod PlaceLaws

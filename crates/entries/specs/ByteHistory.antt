@@ -16,7 +16,7 @@ use Rattle.machine.specs.Claims.{Machine, Always}
 use Rattle.machine.specs.History.{Step, history}
 use Rattle.image.specs.Contents.{Reply, answer, refusal}
 use Rattle.image.specs.Layout.{encodeImage, decodeImage}
-use Rattle.image.specs.LayoutLaws.{reads-back, bytes-image}
+use Rattle.image.specs.LayoutLaws.{decodes-back, bytes-image}
 use Rattle.requests.specs.Request.{Request, decodeToken}
 use Rattle.requests.specs.Faults.{token-faults}
 use Rattle.entries.specs.Bytes.{_>>=_, status, validateBytes}
@@ -76,4 +76,4 @@ module _ (x b : List ℕ) (s : State) (h : decodeImage x ≡ some s) where
 
 pub byte-history : Always bytes (encodeImage default)
 byte-history = history bytes (record { each-call = λ x s h c. step x s h c (reply x c) refl; validation = λ x s h b. checks x b s (h .1) })
-    (encodeImage default) (bytes-image default default-has-image, reads-back default default-has-image)
+    (encodeImage default) (bytes-image default default-has-image, decodes-back default default-has-image)

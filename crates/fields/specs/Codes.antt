@@ -1,13 +1,16 @@
 -- A format as a flat list of codes, for a loop. The checked walk finds the first fault as `dec` does; the skip walk hops to where `dec` ends.
-use Prim.Native.Nat.{ℕ, zero, suc, _+_, _-_}
+use Prim.Native.Nat.{ℕ, zero, suc, _+_, _-_, _≤_, _<_}
+use native.Mathlib.Omega.{arith}
 use mathlib.Core.Path.{_≡_, refl, sym, ap, _∙_}
-use mathlib.Core.Bool.{Bool, false, cond}
+use mathlib.Core.Bool.{Bool, true, false, cond, _&&_}
 use mathlib.Core.List.{List, [], _∷_, _++_, map, append-assoc, append-nil}
 use mathlib.Core.Option.{Option, none, some}
 use lib.Dec.{leb, ltb, eqb}
-use lib.ListN.{length, take, drop}
+use lib.ListN.{length, take, drop, length-map}
+use borrow.Author.Tests.{lt-ltb, le-ltb, ne-eqb, ltb-true, leb-true, eqb-true}
 use Rattle.state.specs.Maps.{Text}
 use Rattle.text.specs.Utf8.{utf8}
+use Rattle.text.specs.SameLaws.{and-left, and-right}
 use Rattle.fields.specs.Format.{Malformed, OverLimit, NotUtf8, Res, ok, bad, bind, byte, many, read-number, read-kind, read-option, read-text, after, rows, itself, read-set, Field, nothing, number, kind, text, option, set, _▹_, El, dec}
 use Rattle.fields.specs.FormatLaws.{never, bind-ok, check-ok, byte-ok}
 
@@ -233,3 +236,57 @@ codeOf c =
 
 unfoldable pub codesOf : List ℕ → List Code
 codesOf cs = map codeOf cs
+
+-- a format as the bytes that the code has for it
+abbrev pub shape : Field → List ℕ
+shape nothing = []
+shape (number k) = k ∷ []
+shape kind = 9 ∷ []
+shape (text n) = n ∷ []
+shape (option f) = (11 + length (shape f)) ∷ shape f
+shape (set m n) = 10 ∷ []
+shape (f ▹ g) = shape f ++ shape g
+
+-- whether there is a byte for each field
+abbrev pub has-shape : Field → Bool
+has-shape nothing = true
+has-shape (number k) = ltb k 9
+has-shape kind = true
+has-shape (text n) = leb 32 n
+has-shape (option f) = ltb (length (shape f)) 21 && has-shape f
+has-shape (set m n) = eqb m set-most && eqb n key-limit
+has-shape (f ▹ g) = has-shape f && has-shape g
+
+text-code : (n : ℕ) → 32 ≤ n → codeOf n ≡ a-text n
+unfolding codeOf
+text-code n h = rw (le-ltb n 9 (omega arith), ne-eqb n 9 (omega arith), ne-eqb n 10 (omega arith), le-ltb n 32 h) refl
+
+option-code : (k : ℕ) → k < 21 → codeOf (11 + k) ≡ maybe k
+unfolding codeOf
+option-code k h =
+    let q : 11 + k - 11 ≡ k = omega arith in
+    rw (le-ltb (11 + k) 9 (omega arith), ne-eqb (11 + k) 9 (omega arith), ne-eqb (11 + k) 10 (omega arith), lt-ltb (11 + k) 32 (omega arith), q) refl
+
+codes-append : (xs ys : List ℕ) → codesOf (xs ++ ys) ≡ codesOf xs ++ codesOf ys
+unfolding codesOf
+codes-append [] ys = refl
+codes-append (x ∷ xs) ys = ap (λ (cs : List Code). codeOf x ∷ cs) (codes-append xs ys)
+
+-- THE BYTES OF A FORMAT STAND FOR ITS CODES
+pub shape-codes : (f : Field) → has-shape f ≡ true → codesOf (shape f) ≡ codes f
+unfolding codes codeOf codesOf
+shape-codes nothing h = refl
+shape-codes (number k) h = rw h refl
+shape-codes kind h = refl
+shape-codes (text n) h = ap (λ (c : Code). c ∷ []) (text-code n (leb-true 32 n h))
+shape-codes (option f) h =
+    let s = shape-codes f (and-right (ltb (length (shape f)) 21) (has-shape f) h) in
+    let n : length (shape f) ≡ length (codes f) = sym (length-map (shape f) codeOf) ∙ ap length s in
+    λ i. (option-code (length (shape f)) (ltb-true (length (shape f)) 21 (and-left (ltb (length (shape f)) 21) (has-shape f) h)) ∙ ap maybe n) i ∷ s i
+shape-codes (set m n) h =
+    let a : set-most ≡ m = sym (eqb-true m set-most (and-left (eqb m set-most) (eqb n key-limit) h)) in
+    let b : key-limit ≡ n = sym (eqb-true n key-limit (and-right (eqb m set-most) (eqb n key-limit) h)) in
+    λ i. a-set (a i) (b i) ∷ []
+shape-codes (f ▹ g) h =
+    codes-append (shape f) (shape g)
+    ∙ (λ i. shape-codes f (and-left (has-shape f) (has-shape g) h) i ++ shape-codes g (and-right (has-shape f) (has-shape g) h) i)

@@ -23,15 +23,29 @@ enum Step {
     Stop(u32),
 }
 
-const MALFORMED: u32 = 41;
+pub const MALFORMED: u32 = 41;
 
-const OVER_LIMIT: u32 = 42;
+pub const OVER_LIMIT: u32 = 42;
 
-const NOT_UTF8: u32 = 43;
+pub const NOT_UTF8: u32 = 43;
 
+// The codes of a shape: a number's is its width, a text's its limit, an option's MAYBE plus how many codes its value has.
+pub const U64: u8 = 8;
+
+pub const KIND: u8 = 9;
+
+pub const KEYS: u8 = 10;
+
+pub const MAYBE: u8 = 11;
+
+pub const LAST_MAYBE: u8 = 31;
+
+pub const NAME: u8 = 64;
+
+pub const KEY: u8 = 128;
+
+// How many keys a set may hold.
 const SET_MOST: u8 = 16;
-
-const KEY_LIMIT: u8 = 128;
 
 fn number(n: usize, s: &[u8], at: usize) -> Walk
     requires { ⌜ at ≤ length (now s) ⌝ }
@@ -169,10 +183,10 @@ fn walk_code(code: u8, s: &[u8], at: usize) -> Step
     ensures { λ r. ⌜ r ≡ stepOf (now (s .entry)) (step (codeOf code) (drop at (now (s .entry)))) ⌝ }
 {
     match code {
-        9 => on(kind(s, at)),
-        10 => on(keys(SET_MOST, KEY_LIMIT, s, at)),
-        0..=8 => on(number(code as usize, s, at)),
-        11..=31 => flag((code - 11) as usize, s, at),
+        KIND => on(kind(s, at)),
+        KEYS => on(keys(SET_MOST, KEY, s, at)),
+        0..=U64 => on(number(code as usize, s, at)),
+        MAYBE..=LAST_MAYBE => flag((code - MAYBE) as usize, s, at),
         _ => on(words(code, s, at)),
     }
 }

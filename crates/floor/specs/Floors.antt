@@ -7,11 +7,30 @@ use lib.ListN.{take}
 use Rattle.parts.specs.Digits.{value}
 use Rattle.state.specs.Maps.{Map}
 use Rattle.state.specs.Records.{SnapshotLeaseToken}
-use Rattle.fields.specs.Codes.{Code, a-text, skip}
+use Rattle.fields.specs.Codes.{codes, skip}
 use Rattle.image.specs.Opened.{numberOf}
-use Rattle.image.specs.Shapes.{short}
+use Rattle.image.specs.Shapes.{before-version}
 use Rattle.image.specs.declared.MaybeNumber.{MaybeNumber}
+use Rattle.image.specs.declared.Scalars.{Scalars}
 use Rattle.machine.specs.Next.{oldest, policy-for, readable-for}
+
+-- the scalars with another window
+abbrev pub windowed : Scalars → MaybeNumber → Scalars
+windowed n w = record {
+  term = n .term;
+  index = n .index;
+  «root_intent_epoch» = n .«root_intent_epoch»;
+  «observed_commit_frontier» = n .«observed_commit_frontier»;
+  «retention_window» = w;
+  «retention_policy_epoch» = n .«retention_policy_epoch»;
+  «policy_floor» = n .«policy_floor»;
+  «minimum_readable_version» = n .«minimum_readable_version»;
+  «physically_collected_through» = n .«physically_collected_through»;
+  «lease_clock_tick» = n .«lease_clock_tick»;
+  «lease_epoch» = n .«lease_epoch»;
+  «range_map_epoch» = n .«range_map_epoch»;
+  «collection_root» = n .«collection_root»;
+}
 
 abbrev pub policyFor : MaybeNumber → ℕ → ℕ → ℕ
 policyFor MaybeNumber.NoNumber frontier old = old
@@ -33,9 +52,6 @@ readable-is (some w) policy leases old = refl
 
 -- ---- the oldest leased version, row by row: a lease's version stands after its id and its tenant
 
-abbrev pub before-version : List Code
-before-version = a-text short ∷ a-text short ∷ []
-
 unfoldable pub oldestAt : ℕ → List (List ℕ) → ℕ
 oldestAt floor [] = floor
-oldestAt floor (r ∷ rs) = min (value (take 8 (skip 0 before-version r))) (oldestAt floor rs)
+oldestAt floor (r ∷ rs) = min (value (take 8 (skip 0 (codes before-version) r))) (oldestAt floor rs)

@@ -5,7 +5,7 @@ ghost use lib.ListN.{length, drop};
 ghost use Rattle.fields.specs.Codes.{codes};
 ghost use Rattle.image.specs.Shapes.{lease};
 ghost use Rattle.tables.specs.Seek.{rows-at};
-ghost use Rattle.floor.specs.Floors.{policyFor, readableFor, oldestAt};
+ghost use Rattle.floor.specs.Floors.{windowed, policyFor, readableFor, oldestAt};
 ghost use Rattle.parts.specs.Answer.{Gave};
 ghost use Rattle.entries.specs.Bytes.{applyBytes};
 ghost use Rattle.requests.specs.declared.PublicationAction.{PublicationAction};
@@ -60,16 +60,43 @@ pub fn readable_for(w: MaybeNumber, candidate: u64, old: u64) -> u64
 pub fn oldest(s: &[u8], at: usize, n: usize, floor: u64) -> u64
     ensures { λ r. ⌜ r ≡ oldestAt floor (rows-at (codes lease) n (drop at (now (s .entry)))) ⌝ }
 {
-    let before = [64u8, 64];
     let mut i = 0;
     let mut p = fields::within(s, at);
     let mut m = floor;
     while i < n {
-        m = smaller(parts::u64_at(s, tables::skip_record(&before, s, p)), m);
+        m = smaller(
+            parts::u64_at(
+                s,
+                tables::skip_record(&image::LEASE[..image::LEASE_VERSION], s, p),
+            ),
+            m,
+        );
         p = tables::skip_record(&image::LEASE, s, p);
         i += 1;
     }
     m
+}
+
+// The scalars with another window. (A field that is an enum is not stored to.)
+fn with_window(n: Scalars, w: MaybeNumber) -> Scalars
+    ensures { λ r. ⌜ r ≡ windowed n w ⌝ }
+{
+    let collection_root = n.collection_root;
+    Scalars {
+        term: n.term,
+        index: n.index,
+        root_intent_epoch: n.root_intent_epoch,
+        observed_commit_frontier: n.observed_commit_frontier,
+        retention_window: w,
+        retention_policy_epoch: n.retention_policy_epoch,
+        policy_floor: n.policy_floor,
+        minimum_readable_version: n.minimum_readable_version,
+        physically_collected_through: n.physically_collected_through,
+        lease_clock_tick: n.lease_clock_tick,
+        lease_epoch: n.lease_epoch,
+        range_map_epoch: n.range_map_epoch,
+        collection_root,
+    }
 }
 
 pub fn observe_committed_frontier(
@@ -93,30 +120,21 @@ pub fn observe_committed_frontier(
         return parts::refuse(16);
     }
     let w = n.retention_window;
-    let root = n.collection_root;
-    let leases = c.leases;
+    let tables = c.tables;
+    let leases = tables[image::LEASES];
     let policy = policy_for(w, committed_frontier, n.policy_floor);
     let candidate = oldest(image, leases.at, leases.count, policy);
     let readable = readable_for(w, candidate, n.minimum_readable_version);
-    let m = Scalars {
-        term: x.position.term,
-        index: x.position.index,
-        root_intent_epoch: n.root_intent_epoch,
-        observed_commit_frontier: committed_frontier,
-        retention_window: w,
-        retention_policy_epoch: n.retention_policy_epoch,
-        policy_floor: policy,
-        minimum_readable_version: readable,
-        physically_collected_through: n.physically_collected_through,
-        lease_clock_tick: n.lease_clock_tick,
-        lease_epoch: n.lease_epoch,
-        range_map_epoch: n.range_map_epoch,
-        collection_root: root,
-    };
-    let c2 = next::with_scalars(c, m);
-    let body = [0, c.intents.at, image.len()];
+    let mut d = c;
+    d.scalars.term = x.position.term;
+    d.scalars.index = x.position.index;
+    d.scalars.observed_commit_frontier = committed_frontier;
+    d.scalars.policy_floor = policy;
+    d.scalars.minimum_readable_version = readable;
+    let first = tables[image::INTENTS];
+    let body = [0, first.at, image.len()];
     let told = PublicationOutcome::Applied;
-    next::emit(0, c2, image, request, &body, image, told, next, outcome)
+    next::emit(image, d, image, request, &body, image, told, next, outcome)
 }
 
 pub fn set_retention_window(
@@ -137,31 +155,24 @@ pub fn set_retention_window(
         return parts::refuse(17);
     }
     let w = MaybeNumber::Number(a.retention_window);
-    let root = n.collection_root;
-    let leases = c.leases;
+    let tables = c.tables;
+    let leases = tables[image::LEASES];
     let policy = policy_for(w, n.observed_commit_frontier, n.policy_floor);
     let candidate = oldest(image, leases.at, leases.count, policy);
     let readable = readable_for(w, candidate, n.minimum_readable_version);
     let epoch = next::up(n.retention_policy_epoch);
-    let m = Scalars {
-        term: x.position.term,
-        index: x.position.index,
-        root_intent_epoch: n.root_intent_epoch,
-        observed_commit_frontier: n.observed_commit_frontier,
-        retention_window: w,
-        retention_policy_epoch: epoch,
-        policy_floor: policy,
-        minimum_readable_version: readable,
-        physically_collected_through: n.physically_collected_through,
-        lease_clock_tick: n.lease_clock_tick,
-        lease_epoch: n.lease_epoch,
-        range_map_epoch: n.range_map_epoch,
-        collection_root: root,
-    };
-    let c2 = next::with_scalars(c, m);
-    let body = [0, c.intents.at, image.len()];
+    let m = with_window(n, w);
+    let mut d = c;
+    d.scalars = m;
+    d.scalars.term = x.position.term;
+    d.scalars.index = x.position.index;
+    d.scalars.retention_policy_epoch = epoch;
+    d.scalars.policy_floor = policy;
+    d.scalars.minimum_readable_version = readable;
+    let first = tables[image::INTENTS];
+    let body = [0, first.at, image.len()];
     let told = PublicationOutcome::Applied;
-    next::emit(0, c2, image, request, &body, image, told, next, outcome)
+    next::emit(image, d, image, request, &body, image, told, next, outcome)
 }
 
 pub fn observe_range_map_epoch(
@@ -184,25 +195,13 @@ pub fn observe_range_map_epoch(
     if range_map_epoch < n.range_map_epoch {
         return parts::refuse(27);
     }
-    let w = n.retention_window;
-    let root = n.collection_root;
-    let m = Scalars {
-        term: x.position.term,
-        index: x.position.index,
-        root_intent_epoch: n.root_intent_epoch,
-        observed_commit_frontier: n.observed_commit_frontier,
-        retention_window: w,
-        retention_policy_epoch: n.retention_policy_epoch,
-        policy_floor: n.policy_floor,
-        minimum_readable_version: n.minimum_readable_version,
-        physically_collected_through: n.physically_collected_through,
-        lease_clock_tick: n.lease_clock_tick,
-        lease_epoch: n.lease_epoch,
-        range_map_epoch: range_map_epoch,
-        collection_root: root,
-    };
-    let c2 = next::with_scalars(c, m);
-    let body = [0, c.intents.at, image.len()];
+    let tables = c.tables;
+    let mut d = c;
+    d.scalars.term = x.position.term;
+    d.scalars.index = x.position.index;
+    d.scalars.range_map_epoch = range_map_epoch;
+    let first = tables[image::INTENTS];
+    let body = [0, first.at, image.len()];
     let told = PublicationOutcome::Applied;
-    next::emit(0, c2, image, request, &body, image, told, next, outcome)
+    next::emit(image, d, image, request, &body, image, told, next, outcome)
 }

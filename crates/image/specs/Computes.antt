@@ -7,10 +7,10 @@ use Rattle.parts.specs.Digits.{digits, value}
 use Rattle.fields.specs.Format.{byte, many, read-number, read-kind, enc-option, read-option, enc-text, read-text, after, rows, all, read-set, enc, dec}
 use Rattle.image.specs.Body.{count, write, read, writes}
 use Rattle.image.specs.Contents.{contents, reads, encode, decode, whole}
-use Rattle.image.specs.Layout.{each, encodeImage, decodeImage}
+use Rattle.image.specs.Layout.{each, encodeIn, decodeIn, readIn, decodeImage}
 
 unfoldable pub image-computes : Unit {0}
 unfolding orderOf within byteIn charLen charsAfter utf8 digits value byte many read-number read-kind enc-option read-option enc-text
-    read-text after rows all read-set enc dec count write read writes contents reads encode decode whole each encodeImage
-    decodeImage
+    read-text after rows all read-set enc dec count write read writes contents reads encode decode whole each encodeIn
+    decodeIn readIn decodeImage
 image-computes = tt

@@ -20,8 +20,9 @@ use Rattle.fields.specs.Codes.{Code, key-limit, codes}
 use Rattle.tables.specs.Seek.{Seen, seek, placed, row-of as row-found}
 use Rattle.tables.specs.SeekLaws.{Hopped, hopped-row, seek-is}
 use Rattle.image.specs.Body.{row, id}
-use Rattle.image.specs.Shapes.{short, reference, prepared, lease-rest, job-rest, permit-rest, reference-parts, prepared-parts, lease-parts, job-parts, permit-parts}
-use Rattle.image.specs.Layout.{most-intents, most-roots, most-pins, most-reservations, most-leases, most-jobs, each, row-of, own-row, Formed}
+use Rattle.image.specs.Shapes.{short, reference, prepared, lease-rest, job-rest, permit-rest}
+use Rattle.image.specs.Layout.{most-intents, most-roots, most-pins, most-reservations, most-leases, most-jobs, each, TableName, intents, roots, pins, reservations, leases, jobs, map-of, id-limit, under-id, row-in, Formed}
+use Rattle.image.specs.LayoutLaws.{reservations-own, leases-own, jobs-own}
 use Rattle.image.specs.Tables.{bytes-split}
 
 -- ROWS OF A MAP: each entry as it is written, under its own key
@@ -73,25 +74,17 @@ module _ {A : Type 0} (n : ℕ) (f : Field) (at : Entry A → El (row n f)) wher
       let h : Each StoredAt m = each-of at (Within (row n f)) StoredAt (λ k v o w. (o, w)) m own (rows .each) in
       record { ascending = ascending-of at m own (rows .ascending); found = λ k v. each-lookup StoredAt k v m h; hopped = hopped-each m h }
 
--- THE SIX TABLES
-module _ (s : State) (f : Formed s) where
-  pub intents-stored : Stored short prepared (row-of prepared-parts) (s .intents)
-  intents-stored = stored short prepared (row-of prepared-parts) most-intents (s .intents) (own-keys (s .intents)) (f .fits .1 .0)
+-- EVERY TABLE
+abbrev pub StoredIn : TableName → State → Type 0
+StoredIn t s = Stored (id-limit t) (under-id t) (row-in t) (map-of t s)
 
-  pub roots-stored : Stored short reference (row-of reference-parts) (s .roots)
-  roots-stored = stored short reference (row-of reference-parts) most-roots (s .roots) (own-keys (s .roots)) (f .fits .1 .1 .0)
-
-  pub pins-stored : Stored short reference (row-of reference-parts) (s .pins)
-  pins-stored = stored short reference (row-of reference-parts) most-pins (s .pins) (own-keys (s .pins)) (f .fits .1 .1 .1 .0)
-
-  pub reservations-stored : Stored key-limit permit-rest (own-row permit-parts) (s .deletion-reservations)
-  reservations-stored = stored key-limit permit-rest (own-row permit-parts) most-reservations (s .deletion-reservations) (f .own-reservations) (f .fits .1 .1 .1 .1 .0)
-
-  pub leases-stored : Stored short lease-rest (own-row lease-parts) (s .leases)
-  leases-stored = stored short lease-rest (own-row lease-parts) most-leases (s .leases) (f .own-leases) (f .fits .1 .1 .1 .1 .1 .0)
-
-  pub jobs-stored : Stored short job-rest (own-row job-parts) (s .collection-jobs)
-  jobs-stored = stored short job-rest (own-row job-parts) most-jobs (s .collection-jobs) (f .own-jobs) (f .fits .1 .1 .1 .1 .1 .1 .0)
+pub stored-in : (t : TableName) (s : State) → Formed s → StoredIn t s
+stored-in intents s f = stored short prepared (row-in intents) most-intents (s .intents) (own-keys (s .intents)) (f .fits .1 .0)
+stored-in roots s f = stored short reference (row-in roots) most-roots (s .roots) (own-keys (s .roots)) (f .fits .1 .1 .0)
+stored-in pins s f = stored short reference (row-in pins) most-pins (s .pins) (own-keys (s .pins)) (f .fits .1 .1 .1 .0)
+stored-in reservations s f = stored key-limit permit-rest (row-in reservations) most-reservations (s .deletion-reservations) (reservations-own s f) (f .fits .1 .1 .1 .1 .0)
+stored-in leases s f = stored short lease-rest (row-in leases) most-leases (s .leases) (leases-own s f) (f .fits .1 .1 .1 .1 .1 .0)
+stored-in jobs s f = stored short job-rest (row-in jobs) most-jobs (s .collection-jobs) (jobs-own s f) (f .fits .1 .1 .1 .1 .1 .1 .0)
 
 -- LOOKUP BY ID in a table that stands at a place: the row's bytes, none where there is no such row, and its places
 pub front : (a b : List ℕ) → take (length (a ++ b) - length b) (a ++ b) ≡ a

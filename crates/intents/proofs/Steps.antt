@@ -1,12 +1,13 @@
 -- One step each of the private functions.
-use Prim.Native.Nat.{ℕ, _-_, _≤_}
+use Prim.Native.Nat.{ℕ, suc, _-_, _≤_}
 use native.Mathlib.Omega.{arith}
 use mathlib.Core.Bool.{Bool, true, false, not, _&&_}
 use mathlib.Core.List.{List, [], _∷_}
 use mathlib.Core.Path.{_≡_, refl, sym, ap, _∙_}
 use lib.ListN.{length, take, drop, length-drop}
 use lib.Seq.{take-all}
-use borrow.Author.Tests.{eq-eqb, ne-eqb}
+use lib.Dec.{eqb}
+use borrow.Author.Tests.{ne-eqb}
 use Rattle.text.specs.Same.{sameOf}
 use Rattle.parts.specs.Digits.{value}
 use Rattle.state.specs.Maps.{is-empty}
@@ -14,7 +15,7 @@ use Rattle.fields.specs.Codes.{Code, skip}
 use Rattle.fields.specs.Rows.{text-here}
 use Rattle.fields.specs.Walks.{Rest, placeOf, rest-place}
 use Rattle.tables.specs.Skips.{skip-rest}
-use Rattle.intents.specs.StoredIntent.{from-manifest, from-root, from-prior, matchesIn, statusIn}
+use Rattle.intents.specs.Tests.{from-manifest, from-root, from-prior, matchesIn, differsIn, crossesIn, missingIn}
 
 -- what is left after the first fields
 pub left-after : (cs : List Code) (s r : List ℕ) (p : ℕ) → p ≡ placeOf s (skip 0 cs (drop 0 s)) → r ≡ take (length s) (drop p s) → r ≡ skip 0 cs s
@@ -28,14 +29,6 @@ left-after cs s r p e h =
 -- a flag that leaves a test out
 pub not-left-out : (ignore b t u : Bool) → ignore ≡ false → b ≡ not t → t ≡ u → b ≡ (not ignore && not u)
 not-left-out ignore b t u h e k = e ∙ ap not k ∙ ap (λ (i : Bool). not i && not u) (sym h)
-
--- what a row holds after its first bytes
-pub after-first : (first : ℕ) (row rest : List ℕ) → rest ≡ take (length row) (drop first row) → rest ≡ drop first row
-after-first first row rest h = h ∙ take-all (length row) (drop first row) (omega (arith, length-drop first row))
-
-pub status-at : (row row′ manifest manifest′ root prior key key′ : List ℕ) (g : ℕ) (w a : Bool) (r : ℕ) → r ≡ statusIn row manifest root prior key g w a → row ≡ row′ → manifest ≡ manifest′ → key ≡ key′
-    → r ≡ statusIn row′ manifest′ root prior key′ g w a
-status-at row row′ manifest manifest′ root prior key key′ g w a r h e₁ e₂ e₃ = h ∙ (λ i. statusIn (e₁ i) (e₂ i) root prior (e₃ i) g w a)
 
 module _ (row manifest root prior key : List ℕ) (m d e part : List ℕ) (n : ℕ) (em : m ≡ from-manifest row) (ed : d ≡ from-root m) (ee : e ≡ from-prior d) (en : n ≡ length m - length d) (ep : part ≡ take n (drop 0 m)) where
   pub manifest-part : sameOf part manifest ≡ sameOf (take (length (from-manifest row) - length (from-root (from-manifest row))) (from-manifest row)) manifest
@@ -57,32 +50,38 @@ full-row : (row : List ℕ) → (length row ≡ 0 → ⊥) → is-empty row ≡ 
 full-row [] h = absurd (h refl)
 full-row (x ∷ row) h = refl
 
-module _ (row manifest root prior key : List ℕ) (g : ℕ) (without across : Bool) where
-  pub none-without : length row ≡ 0 → without ≡ true → 0 ≡ statusIn row manifest root prior key g without across
-  unfolding statusIn
-  none-without h k = simp (empty-row row h, k)
+no-bytes : (row : List ℕ) → eqb (length row) 0 ≡ is-empty row
+no-bytes [] = refl
+no-bytes (x ∷ row) = ne-eqb (suc (length row)) 0 (λ z. omega (arith, z))
 
-  pub none-missing : length row ≡ 0 → without ≡ false → 4 ≡ statusIn row manifest root prior key g without across
-  unfolding statusIn
-  none-missing h k = simp (empty-row row h, k)
+module _ (row manifest root prior key : List ℕ) where
+  pub none-differs : length row ≡ 0 → false ≡ differsIn row manifest root prior key
+  unfolding differsIn
+  none-differs h = sym (ap (λ (t : Bool). not t && not (matchesIn row manifest root prior key)) (empty-row row h))
 
-  module _ (h : length row ≡ 0 → ⊥) where
-    pub one-other : matchesIn row manifest root prior key ≡ false → 5 ≡ statusIn row manifest root prior key g without across
-    unfolding statusIn
-    one-other k = simp (full-row row h, k)
+  pub one-differs : (length row ≡ 0 → ⊥) → (b : Bool) → b ≡ matchesIn row manifest root prior key → not b ≡ differsIn row manifest root prior key
+  unfolding differsIn
+  one-differs h b e = ap not e ∙ sym (ap (λ (t : Bool). not t && not (matchesIn row manifest root prior key)) (full-row row h))
 
-    module _ (k : matchesIn row manifest root prior key ≡ true) where
-      pub one-across : across ≡ true → 0 ≡ statusIn row manifest root prior key g without across
-      unfolding statusIn
-      one-across a = simp (full-row row h, k, a)
+module _ (across : Bool) (row : List ℕ) (g : ℕ) where
+  pub crosses-out : across ≡ true → false ≡ crossesIn across row g
+  unfolding crossesIn
+  crosses-out h = sym (ap (λ (t : Bool). not t && (not (is-empty row) && not (eqb (value (take 8 row)) g))) h)
 
-      pub one-own : across ≡ false → value (take 8 row) ≡ g → 0 ≡ statusIn row manifest root prior key g without across
-      unfolding statusIn
-      one-own a e = simp (full-row row h, k, a, eq-eqb _ _ e)
+  module _ (h : across ≡ false) where
+    pub none-crosses : length row ≡ 0 → false ≡ crossesIn across row g
+    unfolding crossesIn
+    none-crosses k = sym (λ i. not (h i) && (not (empty-row row k i) && not (eqb (value (take 8 row)) g)))
 
-      pub one-of-other : across ≡ false → (value (take 8 row) ≡ g → ⊥) → 6 ≡ statusIn row manifest root prior key g without across
-      unfolding statusIn
-      one-of-other a e = simp (full-row row h, k, a, ne-eqb _ _ e)
+    pub one-crosses : (length row ≡ 0 → ⊥) → (n : ℕ) → n ≡ value (take 8 row) → not (eqb n g) ≡ crossesIn across row g
+    unfolding crossesIn
+    one-crosses k n e = ap (λ (m : ℕ). not (eqb m g)) e ∙ sym (λ i. not (h i) && (not (full-row row k i) && not (eqb (value (take 8 row)) g)))
 
-pub all-named : (a b m v r : Bool) → a ≡ false → b ≡ false → m ≡ true → r ≡ v → r ≡ (not a && (not b && (m && v)))
-all-named a b m v r ha hb hm e = e ∙ (λ i. not (sym ha i) && (not (sym hb i) && (sym hm i && v)))
+module _ (without : Bool) (row : List ℕ) where
+  pub missing-out : without ≡ true → false ≡ missingIn without row
+  unfolding missingIn
+  missing-out h = sym (ap (λ (t : Bool). not t && is-empty row) h)
+
+  pub missing-told : without ≡ false → eqb (length row) 0 ≡ missingIn without row
+  unfolding missingIn
+  missing-told h = no-bytes row ∙ sym (ap (λ (t : Bool). not t && is-empty row) h)

@@ -1,7 +1,4 @@
-pub mod Intents
-pub mod PrepareRule
+pub mod Tests
 pub mod PrepareCall
-pub mod StoredIntent
-pub mod PublishRule
 pub mod StoredLaws
 pub mod PublishCall

@@ -1,7 +1,7 @@
 -- On the row of a stored intent, the tests over bytes are those of the rule.
 use Prim.Native.Nat.{ℕ, _+_, _-_}
-use mathlib.Core.Bool.{Bool, true, false, not, cond, _&&_}
-use mathlib.Core.List.{List, [], _∷_, _++_, append-assoc}
+use mathlib.Core.Bool.{Bool, true, false, not, _&&_}
+use mathlib.Core.List.{List, [], _++_, append-assoc}
 use mathlib.Core.Option.{Option, none, some}
 use mathlib.Core.Path.{_≡_, refl, sym, ap, _∙_}
 use lib.Dec.{eqb}
@@ -15,7 +15,7 @@ use Rattle.state.specs.Sorted.{Ascending}
 use Rattle.state.specs.Places.{at}
 use Rattle.state.specs.Records.{ObjectReference, PreparedPublication, reference-eq}
 use Rattle.fields.specs.Format.{_▹_, enc, enc-text, option, all, Within}
-use Rattle.fields.specs.Codes.{codes, skip, codeOf, codesOf, set-most, key-limit}
+use Rattle.fields.specs.Codes.{skip, set-most, key-limit, shape-codes}
 use Rattle.fields.specs.Rows.{text-here, text-there}
 use Rattle.sets.specs.Sets.{set-of, set-of-enc}
 use Rattle.image.specs.Shapes.{short, u64, name, keys, reference, prepared, reference-parts, prepared-parts, each-option}
@@ -27,9 +27,7 @@ use Rattle.machine.specs.Machine.{fails, intent-matches}
 use Rattle.next.specs.Edit.{Standing, absent, present, standing}
 use Rattle.next.specs.Peeks.{skip-to, number-here}
 use Rattle.publication.specs.References.{HeldWithin, row-rest}
-use Rattle.intents.specs.StoredIntent.{from-manifest, from-root, from-prior, matchesIn, statusIn}
-use Rattle.intents.specs.PublishRule.{first-of}
-use Rattle.image.specs.CodeLists.{manifest-codes}
+use Rattle.intents.specs.Tests.{from-manifest, from-root, from-prior, matchesIn, differsIn, crossesIn, missingIn}
 
 abbrev pub held-intent : Option PreparedPublication → List ℕ
 held-intent none = []
@@ -54,93 +52,77 @@ intent-within m st k = go (lookup k m) refl
     go none e = tt
     go (some v) e = st .found k v e .1 .1
 
-owner-codes : codesOf (8 ∷ 10 ∷ []) ≡ codes (u64 ▹ keys)
-unfolding codesOf codeOf codes
-owner-codes = refl
-
-name-codes : codesOf (64 ∷ []) ≡ codes name
-unfolding codesOf codeOf codes
-name-codes = refl
-
 in-order : (a b c d : Bool) → (a && (b && (c && d))) ≡ (a && b && c && d)
 in-order false b c d = refl
 in-order true false c d = refl
 in-order true true c d = refl
 
-module _ (v : PreparedPublication) (manifest : ObjectReference) (root : Text) (prior : Option ObjectReference)
-    (w : Within prepared (prepared-parts v)) (wm : Within reference (reference-parts manifest)) (wp : HeldWithin prior)
-  where
-    abbrev row : List ℕ
-    row = enc prepared (prepared-parts v)
+module _ (v : PreparedPublication) (w : Within prepared (prepared-parts v)) where
+  abbrev row : List ℕ
+  row = enc prepared (prepared-parts v)
 
-    abbrev r : List ℕ
-    r = enc reference (reference-parts (v .intent .manifest))
+  abbrev r : List ℕ
+  r = enc reference (reference-parts (v .intent .manifest))
 
-    abbrev d : List ℕ
-    d = enc-text (v .intent .destination-root) ++ enc (option reference) (each-option reference-parts (v .intent .expected-prior-root))
+  abbrev d : List ℕ
+  d = enc-text (v .intent .destination-root) ++ enc (option reference) (each-option reference-parts (v .intent .expected-prior-root))
 
-    split-row : row ≡ enc (u64 ▹ keys) (v .owner-generation, v .intent .object-keys) ++ (r ++ d)
-    unfolding enc
-    split-row = sym (append-assoc (digits 8 (v .owner-generation)) (enc keys (v .intent .object-keys)) (r ++ d))
+  row-full : is-empty row ≡ false
+  unfolding enc digits
+  row-full = refl
 
-    at-manifest : from-manifest row ≡ r ++ d
-    at-manifest = (λ i. skip 0 (owner-codes i) (split-row i)) ∙ skip-to (u64 ▹ keys) (v .owner-generation, v .intent .object-keys) (r ++ d)
+  owner-there : value (take 8 row) ≡ v .owner-generation
+  unfolding enc
+  owner-there = number-here (v .owner-generation) (enc keys (v .intent .object-keys) ++ (r ++ d)) (w .0)
 
-    at-root : from-root (from-manifest row) ≡ d
-    at-root = (λ i. skip 0 (manifest-codes i) (at-manifest i)) ∙ skip-to reference (reference-parts (v .intent .manifest)) d
+  split-row : row ≡ enc (u64 ▹ keys) (v .owner-generation, v .intent .object-keys) ++ (r ++ d)
+  unfolding enc
+  split-row = sym (append-assoc (digits 8 (v .owner-generation)) (enc keys (v .intent .object-keys)) (r ++ d))
 
-    at-prior : from-prior (from-root (from-manifest row)) ≡ enc (option reference) (each-option reference-parts (v .intent .expected-prior-root))
-    unfolding enc
-    at-prior = (λ i. skip 0 (name-codes i) (at-root i)) ∙ skip-to name (v .intent .destination-root) (enc (option reference) (each-option reference-parts (v .intent .expected-prior-root)))
+  at-manifest : from-manifest row ≡ r ++ d
+  at-manifest = (λ i. skip 0 (shape-codes (u64 ▹ keys) refl i) (split-row i)) ∙ skip-to (u64 ▹ keys) (v .owner-generation, v .intent .object-keys) (r ++ d)
 
-    keys-there : set-of (drop 8 row) ≡ v .intent .object-keys
-    unfolding enc
-    keys-there =
-        ap (λ (n : ℕ). set-of (drop n row)) (sym (length-digits 8 (v .owner-generation)))
-        ∙ ap set-of (drop-append-seam (digits 8 (v .owner-generation)) (enc keys (v .intent .object-keys) ++ (r ++ d)))
-        ∙ set-of-enc set-most key-limit (v .intent .object-keys) (r ++ d) (w .1 .0)
+  at-root : from-root (from-manifest row) ≡ d
+  at-root = (λ i. skip 0 (shape-codes reference refl i) (at-manifest i)) ∙ skip-to reference (reference-parts (v .intent .manifest)) d
 
-    pub matches-is : matchesIn row (enc reference (reference-parts manifest)) root (enc (option reference) (each-option reference-parts prior)) (manifest .key) ≡ intent-matches root prior manifest v
-    unfolding matchesIn intent-matches
-    matches-is =
-        (λ i. sameOf (take (length (at-manifest i) - length (at-root i)) (at-manifest i)) (enc reference (reference-parts manifest))
-        && (sameOf (text-here (at-root i)) root && (sameOf (at-prior i) (enc (option reference) (each-option reference-parts prior)) && contains (manifest .key) (keys-there i))))
-        ∙ (λ i. sameOf (front r d i) (enc reference (reference-parts manifest))
-        && (sameOf (text-there (v .intent .destination-root) (enc (option reference) (each-option reference-parts (v .intent .expected-prior-root))) i) root
-        && (same-prior (v .intent .expected-prior-root) prior (w .1 .1 .1 .1) wp i && contains (manifest .key) (v .intent .object-keys))))
-        ∙ ap (λ (t : Bool). t && (sameOf (v .intent .destination-root) root && (same-option reference-eq (v .intent .expected-prior-root) prior && contains (manifest .key) (v .intent .object-keys))))
-        (same-reference (v .intent .manifest) manifest (w .1 .1 .0) wm)
-        ∙ in-order (reference-eq (v .intent .manifest) manifest) (sameOf (v .intent .destination-root) root) (same-option reference-eq (v .intent .expected-prior-root) prior) (contains (manifest .key) (v .intent .object-keys))
+  at-prior : from-prior (from-root (from-manifest row)) ≡ enc (option reference) (each-option reference-parts (v .intent .expected-prior-root))
+  unfolding enc
+  at-prior = (λ i. skip 0 (shape-codes name refl i) (at-root i)) ∙ skip-to name (v .intent .destination-root) (enc (option reference) (each-option reference-parts (v .intent .expected-prior-root)))
 
-    owner-there : value (take 8 row) ≡ v .owner-generation
-    unfolding enc
-    owner-there = number-here (v .owner-generation) (enc keys (v .intent .object-keys) ++ (r ++ d)) (w .0)
+  keys-there : set-of (drop 8 row) ≡ v .intent .object-keys
+  unfolding enc
+  keys-there =
+      ap (λ (n : ℕ). set-of (drop n row)) (sym (length-digits 8 (v .owner-generation)))
+      ∙ ap set-of (drop-append-seam (digits 8 (v .owner-generation)) (enc keys (v .intent .object-keys) ++ (r ++ d)))
+      ∙ set-of-enc set-most key-limit (v .intent .object-keys) (r ++ d) (w .1 .0)
 
-    row-full : is-empty row ≡ false
-    unfolding enc digits
-    row-full = refl
+  matches-is : (manifest : ObjectReference) (root : Text) (prior : Option ObjectReference) → Within reference (reference-parts manifest) → HeldWithin prior
+      → matchesIn row (enc reference (reference-parts manifest)) root (enc (option reference) (each-option reference-parts prior)) (manifest .key) ≡ intent-matches root prior manifest v
+  unfolding matchesIn intent-matches
+  matches-is manifest root prior wm wp =
+      (λ i. sameOf (take (length (at-manifest i) - length (at-root i)) (at-manifest i)) (enc reference (reference-parts manifest))
+      && (sameOf (text-here (at-root i)) root && (sameOf (at-prior i) (enc (option reference) (each-option reference-parts prior)) && contains (manifest .key) (keys-there i))))
+      ∙ (λ i. sameOf (front r d i) (enc reference (reference-parts manifest))
+      && (sameOf (text-there (v .intent .destination-root) (enc (option reference) (each-option reference-parts (v .intent .expected-prior-root))) i) root
+      && (same-prior (v .intent .expected-prior-root) prior (w .1 .1 .1 .1) wp i && contains (manifest .key) (v .intent .object-keys))))
+      ∙ ap (λ (t : Bool). t && (sameOf (v .intent .destination-root) root && (same-option reference-eq (v .intent .expected-prior-root) prior && contains (manifest .key) (v .intent .object-keys))))
+      (same-reference (v .intent .manifest) manifest (w .1 .1 .0) wm)
+      ∙ in-order (reference-eq (v .intent .manifest) manifest) (sameOf (v .intent .destination-root) root) (same-option reference-eq (v .intent .expected-prior-root) prior) (contains (manifest .key) (v .intent .object-keys))
 
-none-case : (w a : Bool) → _≡_ {A = ℕ} (cond w 0 4) (first-of false (not a && false) (not w && true))
-none-case true true = refl
-none-case true false = refl
-none-case false true = refl
-none-case false false = refl
+-- THE THREE TESTS
+module _ (manifest : ObjectReference) (root : Text) (prior : Option ObjectReference) (wm : Within reference (reference-parts manifest)) (wp : HeldWithin prior) where
+  pub differs-is : (o : Option PreparedPublication) → IntentWithin o
+      → differsIn (held-intent o) (enc reference (reference-parts manifest)) root (enc (option reference) (each-option reference-parts prior)) (manifest .key) ≡ fails (intent-matches root prior manifest) o
+  unfolding differsIn
+  differs-is none w = refl
+  differs-is (some v) w = λ i. not (row-full v w i) && not (matches-is v w manifest root prior wm wp i)
 
-some-case : (m a e w : Bool) → _≡_ {A = ℕ} (cond m (cond a 0 (cond e 0 6)) 5) (first-of (not m) (not a && not e) (not w && false))
-some-case false a e w = refl
-some-case true true e true = refl
-some-case true true e false = refl
-some-case true false true true = refl
-some-case true false true false = refl
-some-case true false false w = refl
+pub crosses-is : (across : Bool) (generation : ℕ) (o : Option PreparedPublication) → IntentWithin o → crossesIn across (held-intent o) generation ≡ (not across && fails (λ p. eqb (p .owner-generation) generation) o)
+unfolding crossesIn
+crosses-is across generation none w = refl
+crosses-is across generation (some v) w = λ i. not across && (not (row-full v w i) && not (eqb (owner-there v w i) generation))
 
-pub status-is : (o : Option PreparedPublication) (manifest : ObjectReference) (root : Text) (prior : Option ObjectReference) (g : ℕ) (without across : Bool)
-    → IntentWithin o → Within reference (reference-parts manifest) → HeldWithin prior
-    → statusIn (held-intent o) (enc reference (reference-parts manifest)) root (enc (option reference) (each-option reference-parts prior)) (manifest .key) g without across
-    ≡ first-of (fails (intent-matches root prior manifest) o) (not across && fails (λ p. eqb (p .owner-generation) g) o) (not without && not (is-some o))
-unfolding statusIn
-status-is none manifest root prior g without across w wm wp = none-case without across
-status-is (some v) manifest root prior g without across w wm wp =
-    (λ i. cond (row-full v manifest root prior w wm wp i) (cond without 0 4)
-    (cond (matches-is v manifest root prior w wm wp i) (cond across 0 (cond (eqb (owner-there v manifest root prior w wm wp i) g) 0 6)) 5))
-    ∙ some-case (intent-matches root prior manifest v) across (eqb (v .owner-generation) g) without
+pub missing-is : (without : Bool) (o : Option PreparedPublication) → IntentWithin o → missingIn without (held-intent o) ≡ (not without && not (is-some o))
+unfolding missingIn
+missing-is without none w = refl
+missing-is without (some v) w = λ i. not without && row-full v w i

@@ -13,7 +13,7 @@ use Rattle.fields.specs.Format.{Field, _▹_, enc, enc-text}
 use Rattle.image.specs.Shapes.{u64, name, closure, lease, lease-parts, closure-parts}
 use Rattle.machine.specs.Next.{up, new-lease}
 use Rattle.requests.specs.Request.{acquire}
-use Rattle.next.specs.Kept.{run-to, after-seam}
+use Rattle.image.specs.OpenedLaws.{run-to, after-seam}
 
 module _ (q : List ℕ) (id tenant : Text) (version : ℕ) (owner purpose : Text) (deadline : ℕ) (k : SnapshotClosure)
     (here : drop 27 q ≡ enc acquire (id, (tenant, (version, (owner, (purpose, (deadline, closure-parts k)))))))

@@ -1,56 +1,41 @@
 -- The contents after a change of leases, and the state that they show.
-use Prim.Native.Nat.{ℕ, _≤_}
+use Prim.Native.Nat.{ℕ, _+_, _≤_}
 use native.Mathlib.Omega.{arith}
 use mathlib.Core.List.{List}
-use mathlib.Core.Path.{_≡_, refl, sym, ap, _∙_, subst}
-use lib.ListN.{length}
+use mathlib.Core.Path.{_≡_, sym, ap, _∙_, subst}
+use lib.ListN.{length, set}
 use Rattle.state.specs.Maps.{Map}
 use Rattle.state.specs.Records.{SnapshotLeaseToken, State}
 use Rattle.state.specs.Setters.{set-revision, set-root-intent-epoch, set-policy-floor, set-minimum-readable-version, set-lease-clock-tick, set-lease-epoch, set-leases}
-use Rattle.fields.specs.Format.{all}
-use Rattle.image.specs.Shapes.{lease-parts}
-use Rattle.image.specs.Layout.{encodeImage, Formed, own-row}
-use Rattle.image.specs.ImageParts.{length-each}
-use Rattle.image.specs.Opened.{numberOf, contentsOf}
-use Rattle.image.specs.Tables.{lease-row}
+use Rattle.image.specs.Layout.{leases, with-map}
+use Rattle.image.specs.ImageParts.{tables-of, measures}
+use Rattle.image.specs.Opened.{numbersIn, measuresIn, rootBytes, rootWidth, Shows, Holds}
+use Rattle.image.specs.Front.{Light, Small}
+use Rattle.image.specs.TableLaws.{index}
+use Rattle.image.specs.declared.MaybeText.{MaybeText}
+use Rattle.image.specs.declared.Table.{Table}
 use Rattle.image.specs.declared.Contents.{Contents}
-use Rattle.machine.specs.Next.{_▸_, oldest, policy-for, readable-for, recompute-read-floor}
+use Rattle.machine.specs.Next.{_▸_, oldest, policy-for, readable-for}
 use Rattle.requests.specs.Meaning.{positionOf}
 use Rattle.requests.specs.declared.AuthorityContext.{AuthorityContext}
-use Rattle.next.specs.Shows.{Shows}
-use Rattle.next.specs.Head.{Small}
-use Rattle.next.specs.Kept.{root-here, root-size-here, small-here}
+use Rattle.next.specs.Kept.{number-is}
+use Rattle.next.specs.ShownLaws.{small-table}
 use Rattle.floor.specs.Floors.{policyFor, readableFor, policy-is, readable-is}
 
-abbrev pub withLeases : Contents → AuthorityContext → (root-epoch policy readable clock epoch size count : ℕ) → Contents
-withLeases c x root-epoch policy readable clock epoch size count =
-    let n = c .scalars in
-    record {
-      «format_version» = c .«format_version»;
-      scalars = record {
-        term = x .position .term;
-        index = x .position .index;
-        «root_intent_epoch» = root-epoch;
-        «observed_commit_frontier» = n .«observed_commit_frontier»;
-        «retention_window» = n .«retention_window»;
-        «retention_policy_epoch» = n .«retention_policy_epoch»;
-        «policy_floor» = policy;
-        «minimum_readable_version» = readable;
-        «physically_collected_through» = n .«physically_collected_through»;
-        «lease_clock_tick» = clock;
-        «lease_epoch» = epoch;
-        «range_map_epoch» = n .«range_map_epoch»;
-        «collection_root» = n .«collection_root»;
-      };
-      intents = c .intents;
-      roots = c .roots;
-      pins = c .pins;
-      reservations = c .reservations;
-      leases = record { at = c .leases .at; size = size; count = count };
-      jobs = c .jobs;
-    }
+-- the numbers that it sets, by their places in the list
+abbrev numbersAfter : List ℕ → AuthorityContext → (root-epoch policy readable clock epoch : ℕ) → List ℕ
+numbersAfter l x root-epoch policy readable clock epoch =
+    set (set (set (set (set (set (set l 0 (x .position .term)) 1 (x .position .index)) 2 root-epoch) 5 policy) 6 readable) 8 clock) 9 epoch
 
-abbrev pub leasesSet : State → Map SnapshotLeaseToken → (root-epoch policy readable clock epoch : ℕ) → State
+-- d is c with them, and with the table t of leases
+pub record Leased (c : Contents) (x : AuthorityContext) (root-epoch policy readable clock epoch : ℕ) (t : Table) (d : Contents) : Type 0 where
+  pub version : d .«format_version» ≡ c .«format_version»
+  pub numbers : numbersIn (d .scalars) ≡ numbersAfter (numbersIn (c .scalars)) x root-epoch policy readable clock epoch
+  pub window : d .scalars .«retention_window» ≡ c .scalars .«retention_window»
+  pub root : d .scalars .«collection_root» ≡ c .scalars .«collection_root»
+  pub tables : d .tables ≡ set (c .tables) (index leases) t
+
+abbrev leasesSet : State → Map SnapshotLeaseToken → (root-epoch policy readable clock epoch : ℕ) → State
 leasesSet s m root-epoch policy readable clock epoch =
     s
     ▸ set-leases m
@@ -60,70 +45,41 @@ leasesSet s m root-epoch policy readable clock epoch =
     ▸ set-policy-floor policy
     ▸ set-minimum-readable-version readable
 
-pub leases-shown : (s : State) (x q : List ℕ) → encodeImage s ≡ x → (a : AuthorityContext) (m : Map SnapshotLeaseToken) (root-epoch policy readable clock epoch size count : ℕ)
-    → size ≡ length (all lease-row m) → count ≡ length m
-    → Shows x q 0 (withLeases (contentsOf s) a root-epoch policy readable clock epoch size count) (set-revision (positionOf (a .position)) (leasesSet s m root-epoch policy readable clock epoch))
-leases-shown s x q e a m root-epoch policy readable clock epoch size count z n = record {
-  version = refl;
-  term = refl;
-  index = refl;
-  root-intent-epoch = refl;
-  frontier = refl;
-  window = refl;
-  policy-epoch = refl;
-  policy-floor = refl;
-  readable = refl;
-  collected = refl;
-  clock = refl;
-  lease-epoch = refl;
-  range-map = refl;
-  root = root-here s x e q;
-  root-size = root-size-here s;
-  intents = record { size = refl; count = refl };
-  roots = record { size = refl; count = refl };
-  pins = record { size = refl; count = refl };
-  reservations = record { size = refl; count = refl };
-  leases = record { size = z; count = n };
-  jobs = record { size = refl; count = refl };
-}
+-- THE STATE THAT IT SHOWS, with the map m of leases
+module _ {x : List ℕ} {c : Contents} {s : State} (h : Holds x c s) {a : AuthorityContext} (m : Map SnapshotLeaseToken) {root-epoch policy readable clock epoch : ℕ} {t : Table} {d : Contents}
+    (l : Leased c a root-epoch policy readable clock epoch t d) (e : measuresIn (set (c .tables) (index leases) t) ≡ measures (tables-of (with-map leases m s)))
+    {root-epoch′ clock′ epoch′ : ℕ} (er : root-epoch ≡ root-epoch′) (ek : clock ≡ clock′) (ee : epoch ≡ epoch′)
+  where
+    pub leases-shown : {policy′ readable′ : ℕ} → policy ≡ policy′ → readable ≡ readable′ → Shows x d (set-revision (positionOf (a .position)) (leasesSet s m root-epoch′ policy′ readable′ clock′ epoch′))
+    leases-shown p r = record {
+      version = l .version ∙ h .shows .version;
+      numbers = l .numbers ∙ (λ i. numbersAfter (h .shows .numbers i) a (er i) (p i) (r i) (ek i) (ee i));
+      window = l .window ∙ h .shows .window;
+      root = ap (rootBytes x) (l .root) ∙ h .shows .root;
+      root-size = ap (λ (t : MaybeText). 1 + rootWidth t) (l .root) ∙ h .shows .root-size;
+      tables = ap measuresIn (l .tables) ∙ e;
+    }
 
--- with the floors recomputed
-module _ (s : State) (x q : List ℕ) (e : encodeImage s ≡ x) (a : AuthorityContext) (m : Map SnapshotLeaseToken) where
-  abbrev pub Recomputed : (root-epoch clock epoch : ℕ) → State
-  Recomputed root-epoch clock epoch =
-      recompute-read-floor
-      (s
-      ▸ set-leases m
-      ▸ set-lease-epoch epoch
-      ▸ set-root-intent-epoch root-epoch
-      ▸ set-lease-clock-tick clock)
+    -- with the floors recomputed
+    pub recomputed : {candidate : ℕ}
+        → policy ≡ policyFor (c .scalars .«retention_window») (c .scalars .«observed_commit_frontier») (c .scalars .«policy_floor»)
+        → candidate ≡ oldest policy m
+        → readable ≡ readableFor (c .scalars .«retention_window») candidate (c .scalars .«minimum_readable_version»)
+        → Shows x d (set-revision (positionOf (a .position))
+        (leasesSet s m root-epoch′ (policy-for (s .retention-window) (s .observed-commit-frontier) (s .policy-floor))
+        (readable-for (s .retention-window) (policy-for (s .retention-window) (s .observed-commit-frontier) (s .policy-floor)) m (s .minimum-readable-version)) clock′ epoch′))
+    recomputed {candidate} p k r =
+        let floor : ℕ = policy-for (s .retention-window) (s .observed-commit-frontier) (s .policy-floor) in
+        let p′ : policy ≡ floor = p ∙ (λ i. policyFor (h .shows .window i) (number-is h 3 i) (number-is h 5 i)) ∙ policy-is (s .retention-window) (s .observed-commit-frontier) (s .policy-floor) in
+        leases-shown p′
+        (r ∙ (λ i. readableFor (h .shows .window i) ((k ∙ ap (λ (v : ℕ). oldest v m) p′) i) (number-is h 6 i)) ∙ readable-is (s .retention-window) floor m (s .minimum-readable-version))
 
-  pub recomputed : (root-epoch policy candidate readable clock epoch size count : ℕ)
-      → policy ≡ policyFor (numberOf (s .retention-window)) (s .observed-commit-frontier) (s .policy-floor)
-      → candidate ≡ oldest policy m
-      → readable ≡ readableFor (numberOf (s .retention-window)) candidate (s .minimum-readable-version)
-      → size ≡ length (all lease-row m) → count ≡ length m
-      → Shows x q 0 (withLeases (contentsOf s) a root-epoch policy readable clock epoch size count) (set-revision (positionOf (a .position)) (Recomputed root-epoch clock epoch))
-  recomputed root-epoch policy candidate readable clock epoch size count p k r z n =
-      let floor : ℕ = policy-for (s .retention-window) (s .observed-commit-frontier) (s .policy-floor) in
-      let p′ : policy ≡ floor = p ∙ policy-is (s .retention-window) (s .observed-commit-frontier) (s .policy-floor) in
-      let r′ : readable ≡ readable-for (s .retention-window) floor m (s .minimum-readable-version) =
-      r ∙ ap (λ (v : ℕ). readableFor (numberOf (s .retention-window)) v (s .minimum-readable-version)) (k ∙ ap (λ (v : ℕ). oldest v m) p′)
-      ∙ readable-is (s .retention-window) floor m (s .minimum-readable-version) in
-      let to : set-revision (positionOf (a .position)) (leasesSet s m root-epoch policy readable clock epoch) ≡ set-revision (positionOf (a .position)) (Recomputed root-epoch clock epoch) =
-      λ i. set-revision (positionOf (a .position)) (leasesSet s m root-epoch (p′ i) (r′ i) clock epoch) in
-      subst (Shows x q 0 (withLeases (contentsOf s) a root-epoch policy readable clock epoch size count)) to
-      (leases-shown s x q e a m root-epoch policy readable clock epoch size count z n)
-
-pub small-leases : (s : State) → Formed s → (c : Contents) → c ≡ contentsOf s → (a : AuthorityContext) {root-epoch policy readable clock epoch size count : ℕ} → size ≤ 1000000
-    → {c′ : Contents} → c′ ≡ withLeases c a root-epoch policy readable clock epoch size count → Small c′
-small-leases s f c o a {root-epoch} {policy} {readable} {clock} {epoch} {size} {count} h q =
-    subst Small (sym (q ∙ ap (λ (k : Contents). withLeases k a root-epoch policy readable clock epoch size count) o))
-    (let l = small-here s f in (omega (arith, l .0), omega (arith, l .1), omega (arith, l .2), omega (arith, l .3), omega (arith, l .4), h, omega (arith, l .6)))
-
--- the table as it is: its bytes and its rows
-pub table-size-low : (s : State) → Formed s → (c : Contents) → c ≡ contentsOf s → c .leases .size ≤ 65535
-table-size-low s f c o = omega (arith, ap (λ (d : Contents). d .leases .size) o, small-here s f .5)
-
-pub table-count-low : (s : State) → Formed s → (c : Contents) → c ≡ contentsOf s → c .leases .count ≤ 64
-table-count-low s f c o = omega (arith, ap (λ (d : Contents). d .leases .count) o, length-each (own-row lease-parts) (s .leases), f .fits .1 .1 .1 .1 .1 .0 .count)
+pub small-leases : {c : Contents} → Small c → {a : AuthorityContext} {root-epoch policy readable clock epoch : ℕ} {t : Table} {d : Contents}
+    → Leased c a root-epoch policy readable clock epoch t d → t .size ≤ 1000000 → Small d
+small-leases k {t = t} l h =
+    let u = small-table k (index leases) t h in
+    record {
+      root = omega (arith, k .root, ap rootWidth (l .root));
+      tables = subst Light (ap measuresIn (sym (l .tables))) (u .tables);
+      six = ap length (l .tables) ∙ u .six;
+    }

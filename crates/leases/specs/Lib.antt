@@ -1,7 +1,8 @@
 pub mod Rows
+pub mod RowLaws
+pub mod Tests
 pub mod Oldest
 pub mod Leased
-pub mod Placed
 pub mod Release
 pub mod Runs
 pub mod Renew

@@ -9,11 +9,13 @@ ghost use Rattle.fields.specs.Codes.{codes};
 ghost use Rattle.image.specs.Shapes.{lease};
 ghost use Rattle.tables.specs.Seek.{rows-at};
 ghost use Rattle.entries.specs.Bytes.{applyBytes};
+ghost use Rattle.machine.specs.Tests.{firstOf};
 ghost use Rattle.requests.specs.declared.PublicationAction.{PublicationAction};
 ghost use Rattle.next.specs.Call.{Ready};
 ghost use Rattle.leases.specs.Oldest.{named, oldestKept};
-ghost use Rattle.leases.specs.Leased.{withLeases};
-ghost use Rattle.leases.specs.Acquire.{unsetOf, invalidOf, Acquiring};
+ghost use Rattle.leases.specs.Leased.{Leased};
+ghost use Rattle.leases.specs.Tests.{unsetOf, acquireTests, renewTests, releaseTests};
+ghost use Rattle.leases.specs.Acquire.{Acquiring};
 ghost use Rattle.leases.specs.Renew.{Renewing};
 use image::Contents;
 use image::MaybeNumber;
@@ -43,14 +45,13 @@ pub fn older(gone: bool, version: u64, m: u64) -> u64
 fn oldest_without(s: &[u8], at: usize, n: usize, id: &[u8], floor: u64) -> u64
     ensures { λ r. ⌜ r ≡ oldestKept (named (now (id .entry))) floor (rows-at (codes lease) n (drop at (now (s .entry)))) ⌝ }
 {
-    let before = [64u8, 64];
     let mut i = 0;
     let mut p = fields::within(s, at);
     let mut m = floor;
     while i < n {
         m = older(
             text::same(id, fields::text_at(s, p)),
-            tables::number_after(&before, s, p),
+            tables::number_after(&image::LEASE[..image::LEASE_VERSION], s, p),
             m,
         );
         p = tables::skip_record(&image::LEASE, s, p);
@@ -59,7 +60,7 @@ fn oldest_without(s: &[u8], at: usize, n: usize, id: &[u8], floor: u64) -> u64
     m
 }
 
-// The contents after a change of leases: the numbers that it sets, and the size and count of the table.
+// The contents after a change of leases: the numbers that it sets, and the table.
 pub fn with_leases(
     c: Contents,
     x: AuthorityContext,
@@ -68,77 +69,20 @@ pub fn with_leases(
     readable: u64,
     clock: u64,
     epoch: u64,
-    size: usize,
-    count: usize,
+    t: Table,
 ) -> Contents
-    ensures { λ r. ⌜ r ≡ withLeases c x «root_epoch» policy readable clock epoch size count ⌝ }
+    ensures { λ r. ⌜ Leased c x «root_epoch» policy readable clock epoch t r ⌝ }
 {
-    let n = c.scalars;
-    let w = n.retention_window;
-    let root = n.collection_root;
-    let m = Scalars {
-        term: x.position.term,
-        index: x.position.index,
-        root_intent_epoch: root_epoch,
-        observed_commit_frontier: n.observed_commit_frontier,
-        retention_window: w,
-        retention_policy_epoch: n.retention_policy_epoch,
-        policy_floor: policy,
-        minimum_readable_version: readable,
-        physically_collected_through: n.physically_collected_through,
-        lease_clock_tick: clock,
-        lease_epoch: epoch,
-        range_map_epoch: n.range_map_epoch,
-        collection_root: root,
-    };
-    let intents = c.intents;
-    let roots = c.roots;
-    let pins = c.pins;
-    let reservations = c.reservations;
-    let jobs = c.jobs;
-    Contents {
-        format_version: c.format_version,
-        scalars: m,
-        intents,
-        roots,
-        pins,
-        reservations,
-        leases: Table {
-            at: c.leases.at,
-            size,
-            count,
-        },
-        jobs,
-    }
-}
-
-fn invalid_acquire(s: &[u8], a: AcquireLease) -> bool
-    ensures { λ r. ⌜ r ≡ invalidOf (now (s .entry)) a ⌝ }
-{
-    let id = a.lease_id;
-    if records::is_empty(s, id) {
-        return true;
-    }
-    let tenant = a.tenant_id;
-    if records::is_empty(s, tenant) {
-        return true;
-    }
-    if a.snapshot_version == 0 {
-        return true;
-    }
-    let owner = a.owner;
-    if records::is_empty(s, owner) {
-        return true;
-    }
-    let purpose = a.purpose;
-    if records::is_empty(s, purpose) {
-        return true;
-    }
-    let closure = a.closure;
-    if records::valid_closure(s, closure) {
-        return false;
-    }
-    true
+    let mut d = c;
+    d.scalars.term = x.position.term;
+    d.scalars.index = x.position.index;
+    d.scalars.root_intent_epoch = root_epoch;
+    d.scalars.policy_floor = policy;
+    d.scalars.minimum_readable_version = readable;
+    d.scalars.lease_clock_tick = clock;
+    d.scalars.lease_epoch = epoch;
+    d.tables[image::LEASES] = t;
+    d
 }
 
 fn unset(w: MaybeNumber) -> bool
@@ -159,6 +103,70 @@ fn below(accept: bool, version: u64, floor: u64) -> bool
     version < floor
 }
 
+// The tests of AcquireLease. The place is that of its id.
+fn acquire_refusal(
+    image: &[u8],
+    n: Scalars,
+    reservations: Table,
+    request: &[u8],
+    f: PublicationAuthorityFaults,
+    a: AcquireLease,
+    p: Place,
+) -> u32
+    ensures { λ r. ⌜ r ≡ firstOf (acquireTests (now (image .entry)) n reservations (now (request .entry)) f a p) ⌝ }
+{
+    let id = a.lease_id;
+    if records::is_empty(request, id) {
+        return 2;
+    }
+    let tenant = a.tenant_id;
+    if records::is_empty(request, tenant) {
+        return 2;
+    }
+    if a.snapshot_version == 0 {
+        return 2;
+    }
+    let owner = a.owner;
+    if records::is_empty(request, owner) {
+        return 2;
+    }
+    let purpose = a.purpose;
+    if records::is_empty(request, purpose) {
+        return 2;
+    }
+    let closure = a.closure;
+    if !records::valid_closure(request, closure) {
+        return 2;
+    }
+    let w = n.retention_window;
+    if unset(w) {
+        return 18;
+    }
+    if p.start < p.end {
+        return 21;
+    }
+    if below(
+        f.accept_backdated_lease,
+        a.snapshot_version,
+        n.minimum_readable_version,
+    ) {
+        return 19;
+    }
+    if n.observed_commit_frontier < a.snapshot_version {
+        return 20;
+    }
+    let keys = closure.object_keys;
+    let late = a.deadline_tick <= n.lease_clock_tick;
+    let names_reserved = reserved::is_reserved(false, image, reservations, request, keys.at);
+    if late {
+        return 24;
+    }
+    if names_reserved {
+        return 10;
+    }
+    0
+}
+
 // The lease put in: the request's fields up to the version, the epoch, the rest of them, and the context.
 fn put_lease(
     image: &[u8],
@@ -175,7 +183,8 @@ fn put_lease(
     ensures { λ r. ⌜ Gave (applyBytes (now (image .entry)) (now (request .entry)) (length (now (next .entry))) (length (now (outcome .entry)))) (now (next .entry)) (now (outcome .entry)) r (now (next .exit)) (now (outcome .exit)) ⌝ }
 {
     let n = c.scalars;
-    let leases = c.leases;
+    let tables = c.tables;
+    let leases = tables[image::LEASES];
     let w = n.retention_window;
     let epoch = next::up(n.lease_epoch);
     let root_epoch = next::up_unless(f.omit_lease_root_epoch, n.root_intent_epoch);
@@ -197,8 +206,8 @@ fn put_lease(
     let rest = parts::less(owner.at, 1);
     let first = parts::less(rest, start);
     let second = parts::less(keys.at + keys.len, rest);
-    let size = leases.size + (first + second + 32);
-    let c2 = with_leases(
+    let table = edits::after_insert(leases, p, first + second + 32);
+    let d = with_leases(
         c,
         x,
         root_epoch,
@@ -206,13 +215,13 @@ fn put_lease(
         readable,
         n.lease_clock_tick,
         epoch,
-        size,
-        leases.count + 1,
+        table,
     );
+    let intents = tables[image::INTENTS];
     let body = [
         0,
-        c.intents.at,
-        parts::less(p.start, c.intents.at),
+        intents.at,
+        parts::less(p.start, intents.at),
         1,
         start,
         first,
@@ -247,7 +256,7 @@ fn put_lease(
         owner_generation: x.generation,
         authority_position,
     });
-    next::emit(0, c2, image, request, &body, image, told, next, outcome)
+    next::emit(image, d, image, request, &body, image, told, next, outcome)
 }
 
 pub fn acquire_lease(
@@ -264,42 +273,51 @@ pub fn acquire_lease(
     ensures { λ r. ⌜ Gave (applyBytes (now (image .entry)) (now (request .entry)) (length (now (next .entry))) (length (now (outcome .entry)))) (now (next .entry)) (now (outcome .entry)) r (now (next .exit)) (now (outcome .exit)) ⌝ }
 {
     let n = c.scalars;
-    let leases = c.leases;
-    if invalid_acquire(request, a) {
-        return parts::refuse(2);
-    }
-    let w = n.retention_window;
-    if unset(w) {
-        return parts::refuse(18);
-    }
+    let tables = c.tables;
+    let leases = tables[image::LEASES];
+    let reservations = tables[image::RESERVATIONS];
     let t = a.lease_id;
     let id = parts::clip(request, t.at, t.len);
     let p = tables::locate(&image::LEASE, image, leases.at, leases.count, id);
-    if p.start < p.end {
-        return parts::refuse(21);
-    }
-    if below(
-        f.accept_backdated_lease,
-        a.snapshot_version,
-        n.minimum_readable_version,
-    ) {
-        return parts::refuse(19);
-    }
-    if n.observed_commit_frontier < a.snapshot_version {
-        return parts::refuse(20);
-    }
-    let reservations = c.reservations;
-    let closure = a.closure;
-    let keys = closure.object_keys;
-    let late = a.deadline_tick <= n.lease_clock_tick;
-    let names_reserved = reserved::is_reserved(false, image, reservations, request, keys.at);
-    if late {
-        return parts::refuse(24);
-    }
-    if names_reserved {
-        return parts::refuse(10);
+    let status = acquire_refusal(image, n, reservations, request, f, a, p);
+    if status != 0 {
+        return parts::refuse(status);
     }
     put_lease(image, c, request, x, f, a, p, next, outcome)
+}
+
+// The tests of RenewLease: the row stored under its id, none where it is empty, and the lease read from it.
+fn renew_refusal(
+    image: &[u8],
+    clock: u64,
+    reservations: Table,
+    a: RenewLease,
+    row: &[u8],
+    held: SnapshotLeaseToken,
+) -> u32
+    ensures { λ r. ⌜ r ≡ firstOf (renewTests (now (image .entry)) clock reservations a (now (row .entry)) held) ⌝ }
+{
+    if row.len() == 0 {
+        return 22;
+    }
+    if held.lease_epoch != a.expected_lease_epoch {
+        return 23;
+    }
+    let closure = held.closure;
+    let keys = closure.object_keys;
+    let past = a.new_deadline_tick <= clock;
+    let no_later = a.new_deadline_tick <= held.deadline_tick;
+    let names_reserved = reserved::is_reserved(false, image, reservations, row, keys.at);
+    if past {
+        return 24;
+    }
+    if no_later {
+        return 24;
+    }
+    if names_reserved {
+        return 10;
+    }
+    0
 }
 
 // The lease put in place of the one that is held: its bytes but for the epoch, the deadline and the context.
@@ -320,10 +338,12 @@ fn put_renewed(
     ensures { λ r. ⌜ Gave (applyBytes (now (image .entry)) (now (request .entry)) (length (now (next .entry))) (length (now (outcome .entry)))) (now (next .entry)) (now (outcome .entry)) r (now (next .exit)) (now (outcome .exit)) ⌝ }
 {
     let n = c.scalars;
-    let leases = c.leases;
+    let tables = c.tables;
+    let leases = tables[image::LEASES];
     let epoch = next::up(n.lease_epoch);
     let root_epoch = next::up_unless(f.omit_lease_root_epoch, n.root_intent_epoch);
-    let c2 = with_leases(
+    let table = edits::after_insert(leases, p, row.len());
+    let d = with_leases(
         c,
         x,
         root_epoch,
@@ -331,8 +351,7 @@ fn put_renewed(
         n.minimum_readable_version,
         n.lease_clock_tick,
         epoch,
-        leases.size,
-        leases.count,
+        table,
     );
     let lease_id = held.lease_id;
     let tenant_id = held.tenant_id;
@@ -343,10 +362,11 @@ fn put_renewed(
     let keys = closure.object_keys;
     let rest = parts::less(owner.at, 1);
     let deadline = purpose.at + purpose.len;
+    let intents = tables[image::INTENTS];
     let body = [
         0,
-        c.intents.at,
-        parts::less(p.start, c.intents.at),
+        intents.at,
+        parts::less(p.start, intents.at),
         0,
         p.start,
         parts::less(rest, 8),
@@ -387,7 +407,7 @@ fn put_renewed(
         owner_generation: x.generation,
         authority_position,
     });
-    next::emit(0, c2, image, request, &body, row, told, next, outcome)
+    next::emit(image, d, image, request, &body, row, told, next, outcome)
 }
 
 pub fn renew_lease(
@@ -404,34 +424,31 @@ pub fn renew_lease(
     ensures { λ r. ⌜ Gave (applyBytes (now (image .entry)) (now (request .entry)) (length (now (next .entry))) (length (now (outcome .entry)))) (now (next .entry)) (now (outcome .entry)) r (now (next .exit)) (now (outcome .exit)) ⌝ }
 {
     let n = c.scalars;
-    let leases = c.leases;
+    let tables = c.tables;
+    let leases = tables[image::LEASES];
     let t = a.lease_id;
     let id = parts::clip(request, t.at, t.len);
     let p = tables::locate(&image::LEASE, image, leases.at, leases.count, id);
     let row = tables::row(image, p);
-    if row.len() == 0 {
-        return parts::refuse(22);
-    }
     let held = requests::lease_token_at(row, 0);
-    if held.lease_epoch != a.expected_lease_epoch {
-        return parts::refuse(23);
-    }
-    let reservations = c.reservations;
-    let closure = held.closure;
-    let keys = closure.object_keys;
-    let past = a.new_deadline_tick <= n.lease_clock_tick;
-    let no_later = a.new_deadline_tick <= held.deadline_tick;
-    let names_reserved = reserved::is_reserved(false, image, reservations, row, keys.at);
-    if past {
-        return parts::refuse(24);
-    }
-    if no_later {
-        return parts::refuse(24);
-    }
-    if names_reserved {
-        return parts::refuse(10);
+    let reservations = tables[image::RESERVATIONS];
+    let status = renew_refusal(image, n.lease_clock_tick, reservations, a, row, held);
+    if status != 0 {
+        return parts::refuse(status);
     }
     put_renewed(image, c, request, x, f, a, p, row, held, next, outcome)
+}
+
+fn release_refusal(row: &[u8], held: u64, expected: u64) -> u32
+    ensures { λ r. ⌜ r ≡ firstOf (releaseTests (now (row .entry)) held expected) ⌝ }
+{
+    if row.len() == 0 {
+        return 22;
+    }
+    if held != expected {
+        return 23;
+    }
+    0
 }
 
 pub fn release_lease(
@@ -448,18 +465,16 @@ pub fn release_lease(
     ensures { λ r. ⌜ Gave (applyBytes (now (image .entry)) (now (request .entry)) (length (now (next .entry))) (length (now (outcome .entry)))) (now (next .entry)) (now (outcome .entry)) r (now (next .exit)) (now (outcome .exit)) ⌝ }
 {
     let n = c.scalars;
-    let leases = c.leases;
+    let tables = c.tables;
+    let leases = tables[image::LEASES];
     let t = a.lease_id;
     let id = parts::clip(request, t.at, t.len);
     let p = tables::locate(&image::LEASE, image, leases.at, leases.count, id);
     let row = tables::row(image, p);
-    if row.len() == 0 {
-        return parts::refuse(22);
-    }
-    let before = [64u8, 64, 8];
-    let held = tables::number_after(&before, row, 0);
-    if held != a.expected_lease_epoch {
-        return parts::refuse(23);
+    let held = tables::number_after(&image::LEASE[..image::LEASE_EPOCH], row, 0);
+    let status = release_refusal(row, held, a.expected_lease_epoch);
+    if status != 0 {
+        return parts::refuse(status);
     }
     let w = n.retention_window;
     let epoch = next::up(n.lease_epoch);
@@ -467,9 +482,8 @@ pub fn release_lease(
     let policy = floor::policy_for(w, n.observed_commit_frontier, n.policy_floor);
     let candidate = oldest_without(image, leases.at, leases.count, id, policy);
     let readable = floor::readable_for(w, candidate, n.minimum_readable_version);
-    let size = parts::less(leases.size, row.len());
-    let count = parts::less(leases.count, 1);
-    let c2 = with_leases(
+    let table = edits::after_remove(leases, p);
+    let d = with_leases(
         c,
         x,
         root_epoch,
@@ -477,17 +491,17 @@ pub fn release_lease(
         readable,
         n.lease_clock_tick,
         epoch,
-        size,
-        count,
+        table,
     );
+    let intents = tables[image::INTENTS];
     let body = [
         0,
-        c.intents.at,
-        parts::less(p.start, c.intents.at),
+        intents.at,
+        parts::less(p.start, intents.at),
         0,
         p.end,
         image.len(),
     ];
     let told = PublicationOutcome::Applied;
-    next::emit(0, c2, image, request, &body, image, told, next, outcome)
+    next::emit(image, d, image, request, &body, image, told, next, outcome)
 }

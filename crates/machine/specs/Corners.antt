@@ -10,10 +10,11 @@ use Rattle.text.specs.SameLaws.{prefix-refl}
 use Rattle.state.specs.Maps.{Text, is-empty, starts-with, lookup}
 use Rattle.state.specs.MapLaws.{by-test, lookup-insert-same}
 use Rattle.state.specs.Records.{AuthorityContext, ObjectIdentity, ObjectReference, PreparedPublication, SnapshotClosure, SnapshotLeaseToken, DeletePermit, PublicationAuthorityFaults, State, every, revision-eq, is-manifest, valid-context, valid-reference}
+use Rattle.machine.specs.Status.{ObjectDeletionReserved}
 use Rattle.machine.specs.Actions.{Action, Outcome, LeaseAcquired, LeaseRenewed, LeasesExpired, rejected, accepted, decide}
 use Rattle.machine.specs.Next.{up, expired, moved}
 use Rattle.machine.specs.Machine.{acquire-lease, renew-lease, release-lease, advance-lease-clock, intent-matches, publish, reserve-delete, retire-delete, stamp, rule, apply}
-use Rattle.machine.specs.ApplyLaws.{Accepts, stamped}
+use Rattle.machine.specs.ApplyLaws.{Accepts, accepts, stamped}
 use Rattle.machine.specs.Claims.{Unreserved}
 use Rattle.machine.specs.Invariant.{none-reserved}
 
@@ -37,51 +38,51 @@ module _ (s : State) (c : AuthorityContext) (f : PublicationAuthorityFaults) whe
 
   pub reserve-same-epoch : (plan : Text) (mark : ℕ) (key : Text) (i : ObjectIdentity) → Accepts SameRootEpoch (reserve-delete s plan mark key i c f)
   unfolding reserve-delete
-  reserve-same-epoch plan mark key i = λ _ _ _ _ _ _ _ _. refl
+  reserve-same-epoch plan mark key i = accepts [] _ _ refl
 
   pub retire-same-epoch : (p : DeletePermit) → Accepts SameRootEpoch (retire-delete s p (c .generation) f)
   unfolding retire-delete
-  retire-same-epoch p = λ _ _ _ _. refl
+  retire-same-epoch p = accepts [] _ _ (λ _ _. refl)
 
   -- Renewal does not recompute the floor.
   pub renew-same-floor : (id : Text) (epoch deadline : ℕ) → Accepts (λ s′ o. (s′ .policy-floor ≡ s .policy-floor) × (s′ .minimum-readable-version ≡ s .minimum-readable-version)) (renew-lease s id epoch deadline c f)
   unfolding renew-lease
-  renew-same-floor id epoch deadline = λ _ _ _ _ _ _. (refl, refl)
+  renew-same-floor id epoch deadline = accepts [] _ _ (λ _ _. (refl, refl))
 
   -- An accepted AcquireLease gives the token of the request's id, version and closure, and the next state has it under the id. A
   -- renewal gives the one of the lease that it finds.
   pub acquire-gives : (id tenant : Text) (v : ℕ) (owner purpose : Text) (d : ℕ) (q : SnapshotClosure)
       → Accepts (λ s′ o. (t : SnapshotLeaseToken) × (o ≡ LeaseAcquired t) × (lookup id (s′ .leases) ≡ some t) × Given s id v q t s′) (acquire-lease s id tenant v owner purpose d q c f)
   unfolding acquire-lease
-  acquire-gives id tenant v owner purpose d q = λ _ _ _ _ _ _ _ _ _ _ _ _.
+  acquire-gives id tenant v owner purpose d q = accepts [] _ _
       (_, refl, lookup-insert-same id _ (s .leases), record { its-id = refl; its-version = refl; its-closure = refl; its-epoch = refl; next-epoch = refl })
 
   pub renew-gives : (id : Text) (epoch deadline : ℕ)
       → Accepts (λ s′ o. (l t : SnapshotLeaseToken) × (lookup id (s .leases) ≡ some l) × (o ≡ LeaseRenewed t) × (lookup id (s′ .leases) ≡ some t) × Given s (l .lease-id) (l .snapshot-version) (l .closure) t s′) (renew-lease s id epoch deadline c f)
   unfolding renew-lease
-  renew-gives id epoch deadline = λ l at _ _ _ _.
-      (l, _, at, refl, lookup-insert-same id _ (s .leases), record { its-id = refl; its-version = refl; its-closure = refl; its-epoch = refl; next-epoch = refl })
+  renew-gives id epoch deadline = accepts [] _ _ (λ l at.
+      (l, _, at, refl, lookup-insert-same id _ (s .leases), record { its-id = refl; its-version = refl; its-closure = refl; its-epoch = refl; next-epoch = refl }))
 
   -- Under any fault flags: an accepted AcquireLease names no reserved key, and neither does the lease that a renewal finds.
   pub acquire-unreserved : (id tenant : Text) (v : ℕ) (owner purpose : Text) (d : ℕ) (q : SnapshotClosure)
       → Accepts (λ s′ o. Unreserved (s .deletion-reservations) q) (acquire-lease s id tenant v owner purpose d q c f)
   unfolding acquire-lease
-  acquire-unreserved id tenant v owner purpose d q = λ _ _ _ _ _ _ _ _ _ _ _ free. none-reserved s q free
+  acquire-unreserved id tenant v owner purpose d q = accepts (ObjectDeletionReserved ∷ []) _ _ (λ free. none-reserved s q free)
 
   pub renew-unreserved : (id : Text) (epoch deadline : ℕ)
       → Accepts (λ s′ o. (l : SnapshotLeaseToken) × (lookup id (s .leases) ≡ some l) × Unreserved (s .deletion-reservations) (l .closure)) (renew-lease s id epoch deadline c f)
   unfolding renew-lease
-  renew-unreserved id epoch deadline = λ l at _ _ _ free. (l, at, none-reserved s (l .closure) free)
+  renew-unreserved id epoch deadline = accepts (ObjectDeletionReserved ∷ []) _ _ (λ l at free. (l, at, none-reserved s (l .closure) free))
 
   -- A lease that ends moves the epoch: by its release, or by a clock that lists it. A clock that lists none leaves it.
   pub release-raises : (id : Text) (epoch : ℕ) → Accepts (λ s′ o. s′ .lease-epoch ≡ up (s .lease-epoch)) (release-lease s id epoch f)
   unfolding release-lease
-  release-raises id epoch = λ _ _ _. refl
+  release-raises id epoch = accepts [] _ _ (λ _ _. refl)
 
   pub clock-raises : (expected next : ℕ)
       → Accepts (λ s′ o. (ids : List Text) × (o ≡ LeasesExpired ids) × (s′ .lease-epoch ≡ cond (is-empty ids) (s .lease-epoch) (up (s .lease-epoch)))) (advance-lease-clock s expected next f)
   unfolding advance-lease-clock moved
-  clock-raises expected next = λ _ _. (expired s next, refl, moves (expired s next))
+  clock-raises expected next = accepts [] _ _ (expired s next, refl, moves (expired s next))
     where
       moves : (ids : List Text) → moved ids (s .lease-epoch) ≡ cond (is-empty ids) (s .lease-epoch) (up (s .lease-epoch))
       moves [] = refl

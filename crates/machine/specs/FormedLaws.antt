@@ -16,7 +16,7 @@ use Rattle.machine.specs.Actions.{Action, ObserveCommittedFrontier, SetR
 use Rattle.machine.specs.Next.{up, policy-for, readable-for, ends-by, moved, expired, recompute-read-floor, bump-root, bump-root-unless}
 use Rattle.machine.specs.Machine.{observe-committed-frontier, set-retention-window as set-window, observe-range-map-epoch, configure-collection-root, acquire-lease, renew-lease, release-lease, advance-lease-clock, prepare-collection, publish-collection, abandon-collection, prepare, publish, pin, unpin, reserve-delete, retire-delete, act, rule, apply}
 use Rattle.machine.specs.Invariant.{oldest-floor}
-use Rattle.machine.specs.ApplyLaws.{Accepts, accepts, stamped}
+use Rattle.machine.specs.ApplyLaws.{Ends, accepts, stamped}
 use Rattle.machine.specs.ExpiredLaws.{expired-rearranged, expired-once}
 use Rattle.machine.specs.Formed.{Texts, rust-texts, Number, Maybe, Table, PositionFits, ContextFits, Numbers, ReferenceAt, IntentAt, PermitAt, LeaseAt, JobAt, Formed, ActionFits, OutcomeFits}
 
@@ -141,26 +141,26 @@ module _ (T : Texts) where
     abbrev Still : State → Outcome → Type 0
     Still s′ o = Formed T s′ × OutcomeFits T o
 
-    act-formed : (a : Action) (c : AuthorityContext) → ActionFits T a → ContextFits c → Accepts Still (act s a c f)
+    act-formed : (a : Action) (c : AuthorityContext) → ActionFits T a → ContextFits c → Ends [] Still (act s a c f)
     unfolding act observe-committed-frontier set-window observe-range-map-epoch configure-collection-root acquire-lease renew-lease release-lease advance-lease-clock prepare-collection publish-collection abandon-collection prepare publish pin unpin reserve-delete retire-delete
-    act-formed (ObserveCommittedFrontier x) c h k = λ _ _. (floored (keep-observed-commit-frontier x h w), tt)
-    act-formed (SetRetentionWindow e x) c h k = λ _. (floored (keep-retention-policy-epoch _ (up-fits (s .retention-policy-epoch)) (keep-retention-window (some x) (h .1) w)), tt)
-    act-formed (ObserveRangeMapEpoch e) c h k = λ _ _. (keep-range-map-epoch e h w, tt)
-    act-formed (ConfigureCollectionRoot x r) c h k = λ _ _ _ _. (bumped (keep-collection-root (some r) (h .1) w), tt)
-    act-formed (AcquireLease id t v o p d q) c h k = λ _ _ _ _ _ _ _ _ _ _ _ _.
+    act-formed (ObserveCommittedFrontier x) c h k = (floored (keep-observed-commit-frontier x h w), tt)
+    act-formed (SetRetentionWindow e x) c h k = (floored (keep-retention-policy-epoch _ (up-fits (s .retention-policy-epoch)) (keep-retention-window (some x) (h .1) w)), tt)
+    act-formed (ObserveRangeMapEpoch e) c h k = (keep-range-map-epoch e h w, tt)
+    act-formed (ConfigureCollectionRoot x r) c h k = (bumped (keep-collection-root (some r) (h .1) w), tt)
+    act-formed (AcquireLease id t v o p d q) c h k =
         let r = h .1 .1 in
         let x = r .1 .1 in
         both (h .0, (h .1 .0, (r .0, (up-fits (s .lease-epoch), (r .1 .0, (x .0, (x .1 .0, (x .1 .1, k)))))))) (λ new.
         floored (bumped-unless (keep-leases _ (table-insert (LeaseAt T) id _ (s .leases) (refl, new) (w .leases)) (keep-lease-epoch _ (up-fits (s .lease-epoch)) w)) (f .omit-lease-root-epoch)))
-    act-formed (RenewLease id e d) c h k = λ old at _ _ _ _.
+    act-formed (RenewLease id e d) c h k = λ old at.
         let o = each-lookup (LeaseAt T) id old (s .leases) (w .leases .each) at in
         let r = o .1 .1 in
         let x = r .1 .1 .1 in
         both (o .1 .0, (r .0, (r .1 .0, (up-fits (s .lease-epoch), (x .0, (x .1 .0, (h .1 .1, (x .1 .1 .1 .0, k)))))))) (λ new.
         bumped-unless (keep-leases _ (table-insert (LeaseAt T) id _ (s .leases) (o .0, new) (w .leases)) (keep-lease-epoch _ (up-fits (s .lease-epoch)) w)) (f .omit-lease-root-epoch))
-    act-formed (ReleaseLease id e) c h k = λ _ _ _.
+    act-formed (ReleaseLease id e) c h k = λ _ _.
         (floored (bumped-unless (keep-lease-epoch _ (up-fits (s .lease-epoch)) (keep-leases _ (table-remove (LeaseAt T) id (s .leases) (w .leases)) w)) (f .omit-lease-root-epoch)), tt)
-    act-formed (AdvanceLeaseClock e d) c h k = λ _ _.
+    act-formed (AdvanceLeaseClock e d) c h k =
         let ids = expired s d in
         let root = either (f .omit-lease-root-epoch) _ _ (w .numbers .root-intent-epoch-fits) (moved-fits ids (s .root-intent-epoch) (w .numbers .root-intent-epoch-fits)) in (
           floored (keep-root-intent-epoch _ root (keep-lease-epoch _ (moved-fits ids (s .lease-epoch) (w .numbers .lease-epoch-fits)) (keep-leases _ (table-remove-all (LeaseAt T) ids (s .leases) (w .leases)) (keep-lease-clock-tick d (h .1) w)))),
@@ -169,29 +169,29 @@ module _ (T : Texts) where
             expired-once s d (w .leases .ascending),
           ),
         )
-    act-formed (PrepareCollection id n m r e x ns) c h k = λ _ _ _ _ _ _ _ _ _ _ _ _ _ _ _ _.
+    act-formed (PrepareCollection id n m r e x ns) c h k =
         both (h .0, (k .0, (k .1, h .1))) (λ new.
         bumped (keep-physically-collected-through _ (either (f .advance-collection-without-publication) _ _ (h .1 .0) (w .numbers .physically-collected-through-fits)) (keep-collection-jobs _ (table-insert (JobAt T) id _ (s .collection-jobs) (refl, new) (w .collection-jobs)) w)))
-    act-formed (PublishCollection r) c h k = λ _ _ job at _ _ _ _ _ _ _.
+    act-formed (PublishCollection r) c h k = λ job at.
         let j = each-lookup (JobAt T) _ job (s .collection-jobs) (w .collection-jobs .each) at .1 .1 .1 .1 in
         (bumped (keep-collection-jobs _ (table-remove (JobAt T) _ (s .collection-jobs) (w .collection-jobs)) (keep-physically-collected-through _ (j .0) (keep-roots _ (table-insert (ReferenceAt T) _ _ (s .roots) (j .1 .1 .0, h .1 .0) (w .roots)) w))), h)
-    act-formed (AbandonCollection t) c h k = λ _ _ _ _. (bumped (keep-collection-jobs _ (table-remove (JobAt T) _ (s .collection-jobs) (w .collection-jobs)) w), tt)
-    act-formed (Prepare id t) c h k = λ _ _ _ _. (bumped (keep-intents _ (table-insert (IntentAt T) id _ (s .intents) (h .0, (k .0, h .1)) (w .intents)) w), tt)
-    act-formed (Publish id r x m) c h k = λ _ _ _ _ _ _ _ _.
+    act-formed (AbandonCollection t) c h k = λ _ _. (bumped (keep-collection-jobs _ (table-remove (JobAt T) _ (s .collection-jobs) (w .collection-jobs)) w), tt)
+    act-formed (Prepare id t) c h k = (bumped (keep-intents _ (table-insert (IntentAt T) id _ (s .intents) (h .0, (k .0, h .1)) (w .intents)) w), tt)
+    act-formed (Publish id r x m) c h k =
         (bumped (keep-intents _ (table-remove (IntentAt T) id (s .intents) (w .intents)) (keep-roots _ (table-insert (ReferenceAt T) r m (s .roots) (h .1 .0, h .1 .1 .1) (w .roots)) w)), tt)
-    act-formed (Pin id x m) c h k = λ _ _ _ _. (bumped (keep-pins _ (table-insert (ReferenceAt T) id m (s .pins) (h .0, h .1 .1) (w .pins)) w), tt)
-    act-formed (Unpin id x) c h k = λ _ _ _. (bumped (keep-pins _ (table-remove (ReferenceAt T) id (s .pins) (w .pins)) w), tt)
-    act-formed (ReserveDelete p e x i) c h k = λ _ _ _ _ _ _ _ _.
+    act-formed (Pin id x m) c h k = (bumped (keep-pins _ (table-insert (ReferenceAt T) id m (s .pins) (h .0, h .1 .1) (w .pins)) w), tt)
+    act-formed (Unpin id x) c h k = (bumped (keep-pins _ (table-remove (ReferenceAt T) id (s .pins) (w .pins)) w), tt)
+    act-formed (ReserveDelete p e x i) c h k =
         both (h .1 .1 .0, (h .1 .1 .1, (h .0, k))) (λ new.
         keep-deletion-reservations _ (table-insert (PermitAt T) x _ (s .deletion-reservations) (refl, new) (w .deletion-reservations)) w)
-    act-formed (RetireDelete p) c h k = λ _ _ _ _. (keep-deletion-reservations _ (table-remove (PermitAt T) (p .key) (s .deletion-reservations) (w .deletion-reservations)) w, tt)
+    act-formed (RetireDelete p) c h k = λ _ _. (keep-deletion-reservations _ (table-remove (PermitAt T) (p .key) (s .deletion-reservations) (w .deletion-reservations)) w, tt)
 
   -- From any well-formed state, under any fault flags: what a fitting request is accepted with is well formed and fits.
   pub apply-formed : (s : State) (a : Action) (c : AuthorityContext) (f : PublicationAuthorityFaults) → Formed T s → ActionFits T a → ContextFits c
       → (s′ : State) (o : Outcome) → apply s a c f ≡ accepted s′ o → Formed T s′ × OutcomeFits T o
   unfolding apply rule
   apply-formed s a c f w h k = stamped (λ s′ o. Formed T s′ × OutcomeFits T o) (c .position) (decide (rule s a c f)) (λ s₁ o₁ q.
-      let z = accepts (Still s f w) (rule s a c f) (λ _ _. act-formed s f w a c h k) s₁ o₁ q in
+      let z = accepts [] (Still s f w) (rule s a c f) (act-formed s f w a c h k) s₁ o₁ q in
       (keep-revision (c .position) (k .1) (z .0), z .1))
 
 -- so of the values of the Rust's types

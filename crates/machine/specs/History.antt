@@ -19,11 +19,11 @@ use Rattle.state.specs.RecordLaws.{lease-sound, lease-refl}
 use Rattle.machine.specs.Actions.{Action, Outcome, Transition, rejected, accepted, decide}
 use Rattle.machine.specs.Next.{top}
 use Rattle.machine.specs.Machine.{rule, apply, validate-found, validate}
-use Rattle.machine.specs.ApplyLaws.{Accepts, accepts, stamped}
+use Rattle.machine.specs.ApplyLaws.{Ends, accepts, stamped}
 use Rattle.machine.specs.Ledger.{Event, refused, took, Gift, gives, issued, Lease, Ledger, empty, renew-found, tokens-of, end, end-all, Says, begins, renews, releases, ticks, nothing, says, record-said, note, after, Last}
 use Rattle.machine.specs.Claims.{Machine, image, events, ledger, five-of, Rises, Claims, Always, Call, answered, left, said, maps}
 use Rattle.machine.specs.LedgerLaws.{linked-live, linked-some}
-use Rattle.machine.specs.Invariant.{core, rises-trans, rises-refl, Inv, Kept, Permits, Keeps, act-keeps}
+use Rattle.machine.specs.Invariant.{core, rises-trans, rises-refl, Inv, Kept, Permits, relied, Keeps, act-keeps}
 
 -- A MACHINE THAT FOLLOWS `apply` and `validate`: a refusal of any kind changes nothing; an acceptance is that of `apply`, with no fault
 -- flag, of what was asked and with what was answered, both of which can be read.
@@ -47,13 +47,13 @@ pub record Follows (M : Machine) : Type 0 where
 
 -- ONE CALL
 module _ {n : ℕ} (few : n < top) {L : Ledger} (s : State) (i : Inv n (core s) L) (a : Action) (c : AuthorityContext) where
-  rule-keeps : Accepts (Keeps few s i a) (rule s a c no-faults)
+  rule-keeps : Ends relied (Keeps few s i a) (rule s a c no-faults)
   unfolding rule
-  rule-keeps = λ _ _. act-keeps few s i a c
+  rule-keeps = act-keeps few s i a c
 
   apply-keeps : (s′ : State) (o : Outcome) → apply s a c no-faults ≡ accepted s′ o → Keeps few s i a s′ o
   unfolding apply
-  apply-keeps s′ o e = stamped (Keeps few s i a) (c .position) (decide (rule s a c no-faults)) (λ s₁ o₁ q. accepts (Keeps few s i a) (rule s a c no-faults) rule-keeps s₁ o₁ q) s′ o e
+  apply-keeps s′ o e = stamped (Keeps few s i a) (c .position) (decide (rule s a c no-faults)) (λ s₁ o₁ q. accepts relied (Keeps few s i a) (rule s a c no-faults) rule-keeps s₁ o₁ q) s′ o e
 
 step-keeps : (n : ℕ) (L : Ledger) (s : State) → n < top → Inv n (core s) L → (e : Event) (s′ : State) → Step s e s′ → Kept n (core s) (core s′) (note e L) × Permits L (issued e)
 step-keeps n L s few i refused s′ q = (subst (λ (x : State). Kept n (core s) (core x) L) q (record { inv = record { good = i .good; linked = i .linked; count = omega (arith, i .count) }; rises = rises-refl }), tt)

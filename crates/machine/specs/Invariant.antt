@@ -12,10 +12,11 @@ use Rattle.state.specs.MapLaws.{no-way, option-clash, is-none, by-test, lookup-
 use Rattle.state.specs.SortLaws.{rearranged-any}
 use Rattle.state.specs.Records.{AuthorityContext, no-faults, State, SnapshotClosure, SnapshotLeaseToken, CollectionJobToken, ObjectReference, PublicationIntent, CollectionReceipt, DeletePermit, ObjectIdentity, names}
 use Rattle.state.specs.Setters.{set-deletion-reservations, set-lease-clock-tick, set-lease-epoch, set-leases}
+use Rattle.machine.specs.Status.{ObjectDeletionReserved, ObjectNamedByIntent, CommittedFrontierRetreated, SnapshotBelowFloor, SnapshotAheadOfFrontier, LeaseExists, LeaseDeadlineInvalid, LeaseClockMismatch, LeaseClockRetreated, CollectionFloorInvalid, CollectionFrontierMismatch}
 use Rattle.machine.specs.Actions.{Action, ObserveCommittedFrontier, SetRetentionWindow, ObserveRangeMapEpoch, ConfigureCollectionRoot, AcquireLease, RenewLease, ReleaseLease, AdvanceLeaseClock, PrepareCollection, PublishCollection, AbandonCollection, Prepare, Publish, Pin, Unpin, ReserveDelete, RetireDelete, Outcome}
 use Rattle.machine.specs.Next.{top, up, oldest, policy-for, readable-for, ends-by, moved, expired}
 use Rattle.machine.specs.Machine.{observe-committed-frontier, set-retention-window, observe-range-map-epoch, configure-collection-root, acquire-lease, renew-lease, release-lease, advance-lease-clock, prepare-collection, publish-collection, abandon-collection, prepare, publish, pin, unpin, reserve-delete, retire-delete, act, any-reserved}
-use Rattle.machine.specs.ApplyLaws.{Accepts}
+use Rattle.machine.specs.ApplyLaws.{Ends}
 use Rattle.machine.specs.ExpiredLaws.{expired-rearranged}
 use Rattle.machine.specs.Ledger.{took, gives, Lease, Ledger, note}
 use Rattle.machine.specs.Claims.{Five, five-of, Rises, Ordered, Unreserved}
@@ -143,6 +144,12 @@ abbrev pub Permits : Ledger → Option DeletePermit → Type 0
 Permits L none = Unit {0}
 Permits L (some p) = (id : Text) (l : Lease) → lookup id (L .live) ≡ some l → names (l .closure) (p .key) ≡ false
 
+-- the tests that the invariant rests on
+abbrev pub relied : List ℕ
+relied =
+    ObjectDeletionReserved ∷ ObjectNamedByIntent ∷ CommittedFrontierRetreated ∷ SnapshotBelowFloor ∷ SnapshotAheadOfFrontier ∷ LeaseExists ∷ LeaseDeadlineInvalid
+    ∷ LeaseClockMismatch ∷ LeaseClockRetreated ∷ CollectionFloorInvalid ∷ CollectionFrontierMismatch ∷ []
+
 -- an action that issues none
 infixr 1 plain_
 plain_ : {K : Type 0} → K → K × Unit {0}
@@ -154,9 +161,9 @@ module _ {n : ℕ} (few : n < top) {L : Ledger} (s : State) (i : Inv n (core s) 
   abbrev pub Keeps : Action → State → Outcome → Type 0
   Keeps a s′ o = Kept n (core s) (core s′) (note (took (some a) (some o)) L) × Permits L ((gives (some o)) .permit)
 
-  frontier-keeps : (f : ℕ) → Accepts (Keeps (ObserveCommittedFrontier f)) (observe-committed-frontier s f)
+  frontier-keeps : (f : ℕ) → Ends relied (Keeps (ObserveCommittedFrontier f)) (observe-committed-frontier s f)
   unfolding observe-committed-frontier
-  frontier-keeps f = λ _ up. plain floored _ _ (
+  frontier-keeps f = λ up. plain floored _ _ (
       let g = i .good in let ord = g .ordered in let le : s .observed-commit-frontier ≤ f = ltb-false _ _ up in
       record {
         inv = record {
@@ -167,21 +174,21 @@ module _ {n : ℕ} (few : n < top) {L : Ledger} (s : State) (i : Inv n (core s) 
         rises = omega arith;
       })
 
-  window-keeps : (e w : ℕ) → Accepts (Keeps (SetRetentionWindow e w)) (set-retention-window s e w)
+  window-keeps : (e w : ℕ) → Ends relied (Keeps (SetRetentionWindow e w)) (set-retention-window s e w)
   unfolding set-retention-window
-  window-keeps e w = λ _. plain floored _ _ (quiet i)
+  window-keeps e w = plain floored _ _ (quiet i)
 
-  range-keeps : (e : ℕ) → Accepts (Keeps (ObserveRangeMapEpoch e)) (observe-range-map-epoch s e)
+  range-keeps : (e : ℕ) → Ends relied (Keeps (ObserveRangeMapEpoch e)) (observe-range-map-epoch s e)
   unfolding observe-range-map-epoch
-  range-keeps e = λ _ _. plain quiet i
+  range-keeps e = plain quiet i
 
-  configure-keeps : (x : Option Text) (r : Text) → Accepts (Keeps (ConfigureCollectionRoot x r)) (configure-collection-root s x r)
+  configure-keeps : (x : Option Text) (r : Text) → Ends relied (Keeps (ConfigureCollectionRoot x r)) (configure-collection-root s x r)
   unfolding configure-collection-root
-  configure-keeps x r = λ _ _ _ _. plain quiet i
+  configure-keeps x r = plain quiet i
 
-  acquire-keeps : (id tenant : Text) (v : ℕ) (owner purpose : Text) (d : ℕ) (c : SnapshotClosure) (x : AuthorityContext) → Accepts (Keeps (AcquireLease id tenant v owner purpose d c)) (acquire-lease s id tenant v owner purpose d c x no-faults)
+  acquire-keeps : (id tenant : Text) (v : ℕ) (owner purpose : Text) (d : ℕ) (c : SnapshotClosure) (x : AuthorityContext) → Ends relied (Keeps (AcquireLease id tenant v owner purpose d c)) (acquire-lease s id tenant v owner purpose d c x no-faults)
   unfolding acquire-lease
-  acquire-keeps id tenant v owner purpose d c x = λ _ _ _ _ _ _ _ new low high late free. plain floored _ _ (
+  acquire-keeps id tenant v owner purpose d c x = λ new low high late free. plain floored _ _ (
       let g = i .good in
       let next = up-next (s .lease-epoch) n (i .count) few in
       let above : s .minimum-readable-version ≤ v = ltb-false _ _ low in
@@ -196,9 +203,9 @@ module _ {n : ℕ} (few : n < top) {L : Ledger} (s : State) (i : Inv n (core s) 
         rises = omega arith;
       })
 
-  renew-keeps : (id : Text) (e d : ℕ) (x : AuthorityContext) → Accepts (Keeps (RenewLease id e d)) (renew-lease s id e d x no-faults)
+  renew-keeps : (id : Text) (e d : ℕ) (x : AuthorityContext) → Ends relied (Keeps (RenewLease id e d)) (renew-lease s id e d x no-faults)
   unfolding renew-lease
-  renew-keeps id e d x = λ old at _ late _ _. plain
+  renew-keeps id e d x = λ old at late _ _. plain
       let g = i .good in
       let next = up-next (s .lease-epoch) n (i .count) few in
       let ok = g .lease-ok id old at in
@@ -212,9 +219,9 @@ module _ {n : ℕ} (few : n < top) {L : Ledger} (s : State) (i : Inv n (core s) 
         rises = omega arith;
       }
 
-  release-keeps : (id : Text) (e : ℕ) → Accepts (Keeps (ReleaseLease id e)) (release-lease s id e no-faults)
+  release-keeps : (id : Text) (e : ℕ) → Ends relied (Keeps (ReleaseLease id e)) (release-lease s id e no-faults)
   unfolding release-lease
-  release-keeps id e = λ old at _. plain floored _ _ (
+  release-keeps id e = λ old at. plain floored _ _ (
       let g = i .good in
       let next = up-next (s .lease-epoch) n (i .count) few in
       record {
@@ -226,7 +233,7 @@ module _ {n : ℕ} (few : n < top) {L : Ledger} (s : State) (i : Inv n (core s) 
         rises = omega arith;
       })
 
-  tick-keeps : (e d : ℕ) → Accepts (Keeps (AdvanceLeaseClock e d)) (advance-lease-clock s e d no-faults)
+  tick-keeps : (e d : ℕ) → Ends relied (Keeps (AdvanceLeaseClock e d)) (advance-lease-clock s e d no-faults)
   unfolding advance-lease-clock
   tick-keeps e d = λ now later. plain
       let g = i .good in
@@ -254,9 +261,9 @@ module _ {n : ℕ} (few : n < top) {L : Ledger} (s : State) (i : Inv n (core s) 
         rises = omega arith;
       })
 
-  collect-keeps : (id : Text) (f : ℕ) (m : ObjectReference) (r : Text) (e x : ℕ) (ns : Text) (c : AuthorityContext) → Accepts (Keeps (PrepareCollection id f m r e x ns)) (prepare-collection s id f m r e x ns c no-faults)
+  collect-keeps : (id : Text) (f : ℕ) (m : ObjectReference) (r : Text) (e x : ℕ) (ns : Text) (c : AuthorityContext) → Ends relied (Keeps (PrepareCollection id f m r e x ns)) (prepare-collection s id f m r e x ns c no-faults)
   unfolding prepare-collection
-  collect-keeps id f m r e x ns c = λ _ _ _ _ _ _ _ _ _ _ _ _ now after within _. plain
+  collect-keeps id f m r e x ns c = λ now after within. plain
       let g = i .good in
       let q : x ≡ s .physically-collected-through = eqb-true _ _ (not-false _ now) in
       let lo : s .physically-collected-through < f = leb-false _ _ after in
@@ -270,9 +277,9 @@ module _ {n : ℕ} (few : n < top) {L : Ledger} (s : State) (i : Inv n (core s) 
         rises = omega arith;
       }
 
-  publish-collection-keeps : (r : CollectionReceipt) (c : ℕ) → Accepts (Keeps (PublishCollection r)) (publish-collection s r c no-faults)
+  publish-collection-keeps : (r : CollectionReceipt) (c : ℕ) → Ends relied (Keeps (PublishCollection r)) (publish-collection s r c no-faults)
   unfolding publish-collection
-  publish-collection-keeps r c = λ _ _ job at _ _ _ _ now _ _. plain
+  publish-collection-keeps r c = λ job at now _. plain
       let g = i .good in
       let ord = g .ordered in
       let q : job .expected-collected-through ≡ s .physically-collected-through = eqb-true _ _ (not-false _ now) in
@@ -286,9 +293,9 @@ module _ {n : ℕ} (few : n < top) {L : Ledger} (s : State) (i : Inv n (core s) 
         rises = omega arith;
       }
 
-  abandon-keeps : (t : CollectionJobToken) (c : ℕ) → Accepts (Keeps (AbandonCollection t)) (abandon-collection s t c)
+  abandon-keeps : (t : CollectionJobToken) (c : ℕ) → Ends relied (Keeps (AbandonCollection t)) (abandon-collection s t c)
   unfolding abandon-collection
-  abandon-keeps t c = λ job at _ _. plain
+  abandon-keeps t c = λ job at. plain
       let g = i .good in
       record {
         inv = record {
@@ -299,21 +306,21 @@ module _ {n : ℕ} (few : n < top) {L : Ledger} (s : State) (i : Inv n (core s) 
         rises = omega arith;
       }
 
-  prepare-keeps : (id : Text) (t : PublicationIntent) (c : ℕ) → Accepts (Keeps (Prepare id t)) (prepare s id t c no-faults)
+  prepare-keeps : (id : Text) (t : PublicationIntent) (c : ℕ) → Ends relied (Keeps (Prepare id t)) (prepare s id t c no-faults)
   unfolding prepare
-  prepare-keeps id t c = λ _ _ _ _. plain quiet i
+  prepare-keeps id t c = λ _. plain quiet i
 
-  publish-keeps : (id r : Text) (x : Option ObjectReference) (m : ObjectReference) (c : ℕ) → Accepts (Keeps (Publish id r x m)) (publish s id r x m c no-faults)
+  publish-keeps : (id r : Text) (x : Option ObjectReference) (m : ObjectReference) (c : ℕ) → Ends relied (Keeps (Publish id r x m)) (publish s id r x m c no-faults)
   unfolding publish
-  publish-keeps id r x m c = λ _ _ _ _ _ _ _ _. plain quiet i
+  publish-keeps id r x m c = plain quiet i
 
-  pin-keeps : (id : Text) (x : Option ObjectReference) (m : ObjectReference) → Accepts (Keeps (Pin id x m)) (pin s id x m)
+  pin-keeps : (id : Text) (x : Option ObjectReference) (m : ObjectReference) → Ends relied (Keeps (Pin id x m)) (pin s id x m)
   unfolding pin
-  pin-keeps id x m = λ _ _ _ _. plain quiet i
+  pin-keeps id x m = plain quiet i
 
-  unpin-keeps : (id : Text) (x : ObjectReference) → Accepts (Keeps (Unpin id x)) (unpin s id x)
+  unpin-keeps : (id : Text) (x : ObjectReference) → Ends relied (Keeps (Unpin id x)) (unpin s id x)
   unfolding unpin
-  unpin-keeps id x = λ _ _ _. plain quiet i
+  unpin-keeps id x = plain quiet i
 
   -- other reservations, of which no stored lease names one
   with-reservations : (m : Map DeletePermit)
@@ -330,20 +337,20 @@ module _ {n : ℕ} (few : n < top) {L : Ledger} (s : State) (i : Inv n (core s) 
         rises = rises-refl;
       }
 
-  reserve-keeps : (p : Text) (e : ℕ) (k : Text) (x : ObjectIdentity) (c : AuthorityContext) → Accepts (Keeps (ReserveDelete p e k x)) (reserve-delete s p e k x c no-faults)
+  reserve-keeps : (p : Text) (e : ℕ) (k : Text) (x : ObjectIdentity) (c : AuthorityContext) → Ends relied (Keeps (ReserveDelete p e k x)) (reserve-delete s p e k x c no-faults)
   unfolding reserve-delete
-  reserve-keeps p e k x c = λ _ _ _ _ _ unnamed _ _. (
+  reserve-keeps p e k x c = λ _ unnamed _. (
     with-reservations _ (λ id t h. found-insert (λ key _. names (t .closure) key ≡ false) k _ (s .deletion-reservations) (any-value-false (λ u. names (u .closure) k) (s .leases) id t unnamed h)),
     λ id l h.
         let w = linked-live id l (i .linked) h in
         rw (← w .ok .its-closure) (any-value-false (λ t. names (t .closure) k) (s .leases) id (w .token) unnamed (w .stored)),
   )
 
-  retire-keeps : (p : DeletePermit) (c : ℕ) → Accepts (Keeps (RetireDelete p)) (retire-delete s p c no-faults)
+  retire-keeps : (p : DeletePermit) (c : ℕ) → Ends relied (Keeps (RetireDelete p)) (retire-delete s p c no-faults)
   unfolding retire-delete
-  retire-keeps p c = λ _ _ _ _. plain with-reservations _ (λ id t h. found-remove (λ key _. names (t .closure) key ≡ false) (p .key) (s .deletion-reservations))
+  retire-keeps p c = λ _ _. plain with-reservations _ (λ id t h. found-remove (λ key _. names (t .closure) key ≡ false) (p .key) (s .deletion-reservations))
 
-  pub act-keeps : (a : Action) (c : AuthorityContext) → Accepts (Keeps a) (act s a c no-faults)
+  pub act-keeps : (a : Action) (c : AuthorityContext) → Ends relied (Keeps a) (act s a c no-faults)
   unfolding act
   act-keeps (ObserveCommittedFrontier f) c = frontier-keeps f
   act-keeps (SetRetentionWindow e w) c = window-keeps e w

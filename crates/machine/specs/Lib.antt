@@ -2,6 +2,8 @@ pub mod Status
 pub mod Actions
 pub mod Next
 pub mod Machine
+pub mod Tests
+pub mod TestLaws
 pub mod ExpiredLaws
 pub mod ApplyLaws
 pub mod Computes

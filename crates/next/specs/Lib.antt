@@ -1,8 +1,8 @@
-pub mod Head
+pub mod Contents
 pub mod Emit
-pub mod Shows
 pub mod Call
 pub mod Kept
+pub mod ShownLaws
 pub mod Bounds
 pub mod Peeks
 pub mod Asked

@@ -15,12 +15,12 @@ use Rattle.parts.specs.declared.Applied.{Applied}
 use Rattle.parts.specs.Digits.{Bytes}
 use Rattle.parts.specs.Gather.{gatherOf}
 use Rattle.parts.specs.Over.{over, over-none}
-use Rattle.state.specs.Records.{State, default}
-use Rattle.image.specs.Layout.{encodeImage}
+use Rattle.state.specs.Records.{default}
+use Rattle.image.specs.Layout.{Read, readImage, state-read, decodeImage, encodeImage}
 use Rattle.image.specs.Edges.{E1, Measured}
 use Rattle.image.specs.declared.Contents.{Contents}
-use Rattle.image.specs.declared.Opened.the-variants.{NotAnImage, Image}
-use Rattle.image.specs.Opened.{openedOf, contentsOf}
+use Rattle.image.specs.declared.Opened.{Opened}
+use Rattle.image.specs.Opened.{openedOf}
 use Rattle.entries.specs.ByteHistory.{left-by as left}
 use Rattle.okvstep.specs.declared.Stepped.{Stepped}
 use Rattle.okvstep.specs.Moments.{room, outcome-room, answered, Moment, numbersOf, lineOf, steppedOf}
@@ -41,10 +41,6 @@ front d y = take-append-seam y (drop (0 + length y) d)
 
 -- ---- line_of: what opening answers tells the numbers
 
-pub line-none : (o : Option State) → openedOf o ≡ NotAnImage → numbersOf o ≡ 0 ∷ 0 ∷ 0 ∷ 0 ∷ 0 ∷ 0 ∷ []
-line-none none e = refl
-line-none (some s) e = let z : _≡_ {A = ℕ} 0 1 = cc in absurd (omega arith)
-
 abbrev six : Contents → List ℕ
 six c =
     c .scalars .«observed_commit_frontier»
@@ -55,9 +51,13 @@ six c =
     ∷ c .scalars .«root_intent_epoch»
     ∷ []
 
-pub line-some : (o : Option State) (c : Contents) → openedOf o ≡ Image c → numbersOf o ≡ six c
-line-some none c e = let z : _≡_ {A = ℕ} 0 1 = cc in absurd (omega arith)
-line-some (some s) c e = let z : contentsOf s ≡ c = cc in ap six z
+line-read : (o : Option Read) → six (openedOf o .contents) ≡ numbersOf (state-read o)
+line-read none = refl
+line-read (some r) = refl
+
+pub line-is : (x : List ℕ) (o : Opened) → o ≡ openedOf (readImage x) → six (o .contents) ≡ numbersOf (decodeImage x)
+unfolding decodeImage
+line-is x o e = ap (λ (p : Opened). six (p .contents)) e ∙ line-read (readImage x)
 
 -- ---- step: what it gives, by what was answered on the image that it was handed
 

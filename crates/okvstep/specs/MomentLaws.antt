@@ -12,7 +12,7 @@ use Rattle.state.specs.Maps.{Every}
 use Rattle.state.specs.Records.{no-faults, State, default}
 use Rattle.machine.specs.Claims.{image}
 use Rattle.image.specs.Layout.{encodeImage}
-use Rattle.image.specs.LayoutLaws.{reads-back, bytes-image}
+use Rattle.image.specs.LayoutLaws.{decodes-back, bytes-image}
 use Rattle.image.specs.Contents.{answer}
 use Rattle.requests.specs.Request.{Request, decodeRequest}
 use Rattle.entries.specs.Ways.{Took, took}
@@ -76,7 +76,7 @@ holds-after x s h (q ∷ qs) u = let k = go (answered x q) refl in holds-after (
 
 pub moment-holds : (n : ℕ) (x : List ℕ) → Moment n x → (s : State) × Holds x s
 moment-holds n x m =
-    let h = holds-after (encodeImage default) default (bytes-image default default-has-image, reads-back default default-has-image) (m .requests) (m .are-bytes) in
+    let h = holds-after (encodeImage default) default (bytes-image default default-has-image, decodes-back default default-has-image) (m .requests) (m .are-bytes) in
     rw (m .is) h
 
 -- ---- histories: a moment none of whose requests has a fault flag is one of those of which `byte-history` proves the claims

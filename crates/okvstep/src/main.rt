@@ -6,7 +6,6 @@ ghost use lib.ListN.{length, take};
 ghost use Rattle.parts.specs.Answer.{imageOf};
 ghost use Rattle.parts.specs.Over.{over};
 ghost use Rattle.okvstep.specs.Moments.{room, outcome-room, answered, Moment, lineOf, steppedOf};
-use image::Opened;
 use libc::STDIN_FILENO;
 use libc::STDOUT_FILENO;
 
@@ -37,10 +36,9 @@ fn write_line(line: [u64; 8]) {
 fn line_of(frame: u64, status: u32, image: &[u8]) -> [u64; 8]
     ensures { λ r. ⌜ r ≡ lineOf frame status (now (image .entry)) ⌝ }
 {
+    // zeros where the bytes are no image
     let o = image::open(image);
-    let Opened::Image(c) = o else {
-        return [frame, status as u64, 0, 0, 0, 0, 0, 0];
-    };
+    let c = o.contents;
     let n = c.scalars;
     [
         frame,

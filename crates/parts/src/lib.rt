@@ -12,7 +12,7 @@ ghost use Rattle.parts.specs.Answer.{Answer, writtenOf, laidOver, applie
 ghost use Rattle.parts.specs.Size.{sizeIn};
 
 // No image is longer.
-const LONGEST: usize = 65535;
+pub const LONGEST: usize = 65535;
 
 // How many bytes there are, or that there are more than a limit.
 enum Size {
@@ -163,7 +163,7 @@ fn measure(a: &[u8], b: &[u8], parts: &[usize], limit: usize) -> Size
 }
 
 // A plain loop, so that it is compiled to a vector copy.
-fn put(out: &mut [u8], at: usize, x: &[u8]) -> usize
+pub fn put(out: &mut [u8], at: usize, x: &[u8]) -> usize
     requires { ⌜ at + length (now x) ≤ length (now out) ⌝ }
     ensures { λ r. ⌜ Wrote (now (out .entry)) at (now (x .entry)) r (now (out .exit)) ⌝ }
 {
@@ -175,7 +175,7 @@ fn put(out: &mut [u8], at: usize, x: &[u8]) -> usize
     at + i
 }
 
-fn put_digits(out: &mut [u8], at: usize, v: usize, n: usize) -> usize
+pub fn put_digits(out: &mut [u8], at: usize, v: usize, n: usize) -> usize
     requires { ⌜ at + n ≤ length (now out) ⌝ }
     ensures { λ r. ⌜ Wrote (now (out .entry)) at (digits n v) r (now (out .exit)) ⌝ }
 {
@@ -248,29 +248,29 @@ pub fn refuse(status: u32) -> Applied
     }
 }
 
-// Measures all, and then writes: the image is head and body, gathered from a and b, and the outcome is told, gathered from
-// c and b. Nothing else writes a call's answer, so no lent byte changes before everything is known to fit.
+// Measures all, and then writes: the image is the bytes of head and what body gathers from a and b, and the outcome is told,
+// gathered from c and b. Nothing else writes a call's answer, so no lent byte changes before everything is known to fit.
 pub fn emit(
     over_limit: bool,
     a: &[u8],
     b: &[u8],
     c: &[u8],
-    head: &[usize],
+    head: &[u8],
     body: &[usize],
     told: &[usize],
     next: &mut [u8],
     outcome: &mut [u8],
 ) -> Applied
-    ensures { λ r. ⌜ Gave (settle «over_limit» (gatherOf (now (a .entry)) (now (b .entry)) (now (head .entry)) ++ gatherOf (now (a .entry)) (now (b .entry)) (now (body .entry))) (gatherOf (now (c .entry)) (now (b .entry)) (now (told .entry))) (length (now (next .entry))) (length (now (outcome .entry))))
+    ensures { λ r. ⌜ Gave (settle «over_limit» (now (head .entry) ++ gatherOf (now (a .entry)) (now (b .entry)) (now (body .entry))) (gatherOf (now (c .entry)) (now (b .entry)) (now (told .entry))) (length (now (next .entry))) (length (now (outcome .entry))))
         (now (next .entry)) (now (outcome .entry)) r (now (next .exit)) (now (outcome .exit)) ⌝ }
 {
     if over_limit {
         return refuse(44);
     }
-    let h = measure(a, b, head, LONGEST);
-    let Size::Of(x) = h else {
+    let x = head.len();
+    if LONGEST < x {
         return refuse(45);
-    };
+    }
     let m = measure(a, b, body, LONGEST - x);
     let Size::Of(y) = m else {
         return refuse(45);
@@ -282,7 +282,7 @@ pub fn emit(
     let Size::Of(z) = o else {
         return refuse(46);
     };
-    let p = gather(next, 0, a, b, head);
+    let p = put(next, 0, head);
     gather(next, p, a, b, body);
     gather(outcome, 0, c, b, told);
     Applied {

@@ -1,8 +1,5 @@
 pub mod Tests
 pub mod References
-pub mod Stays
-pub mod Pins
-pub mod UnpinRule
+pub mod RaisedLaws
 pub mod UnpinCall
-pub mod PinRule
 pub mod PinCall

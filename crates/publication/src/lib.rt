@@ -5,8 +5,11 @@ ghost use Rattle.text.specs.Same.{sameOf};
 ghost use Rattle.parts.specs.Answer.{Gave};
 ghost use Rattle.entries.specs.Bytes.{applyBytes};
 ghost use Rattle.requests.specs.declared.PublicationAction.{PublicationAction};
+ghost use Rattle.requests.specs.Meaning.{textOf, referenceOf};
+ghost use Rattle.machine.specs.Tests.{firstOf};
 ghost use Rattle.next.specs.Call.{Ready};
 ghost use Rattle.publication.specs.References.{optionAt};
+ghost use Rattle.publication.specs.Tests.{pinTests, unpinTests};
 use image::Contents;
 use next::PublicationOutcome;
 use parts::Applied;
@@ -15,14 +18,11 @@ use requests::Pin;
 use requests::PublicationAuthorityFaults;
 use requests::Unpin;
 
-// The shape of an option of a reference.
-const MAYBE_REFERENCE: [u8; 5] = [15, 9, 128, 8, 64];
-
 // The option of a reference that stands at a place.
 pub fn option_at<'a>(s: &'a [u8], at: usize) -> &'a [u8]
     ensures { λ r. ⌜ now r ≡ optionAt (now (s .entry)) at ⌝ }
 {
-    let end = tables::skip_record(&MAYBE_REFERENCE, s, at);
+    let end = tables::skip_record(&image::MAYBE_REFERENCE, s, at);
     parts::clip(s, at, parts::less(end, at))
 }
 
@@ -31,6 +31,27 @@ pub fn is_expected(row: &[u8], first: usize, expected: &[u8]) -> bool
     ensures { λ r. ⌜ r ≡ sameOf (drop first (now (row .entry))) (drop 1 (now (expected .entry))) ⌝ }
 {
     edits::row_holds(row, first, parts::clip(expected, 1, expected.len()))
+}
+
+// The status of the first test that refuses a pin, 0 where none does; `row` is the stored pin's, whose first bytes are its id.
+fn pin_refusal(request: &[u8], a: Pin, row: &[u8], first: usize, expected: &[u8]) -> u32
+    ensures { λ r. ⌜ r ≡ firstOf (pinTests (textOf (now (request .entry)) (a .«pin_id»)) (referenceOf (now (request .entry)) (a .manifest)) (sameOf (drop first (now (row .entry))) (drop 1 (now (expected .entry))))) ⌝ }
+{
+    let id = a.pin_id;
+    let manifest = a.manifest;
+    if records::is_empty(request, id) {
+        return 2;
+    }
+    if !records::is_manifest(manifest) {
+        return 2;
+    }
+    if !records::valid_reference(request, manifest) {
+        return 2;
+    }
+    if !is_expected(row, first, expected) {
+        return 8;
+    }
+    0
 }
 
 pub fn pin(
@@ -47,35 +68,22 @@ pub fn pin(
     ensures { λ r. ⌜ Gave (applyBytes (now (image .entry)) (now (request .entry)) (length (now (next .entry))) (length (now (outcome .entry)))) (now (next .entry)) (now (outcome .entry)) r (now (next .exit)) (now (outcome .exit)) ⌝ }
 {
     let t = a.pin_id;
-    let manifest = a.manifest;
-    if records::is_empty(request, t) {
-        return parts::refuse(2);
-    }
-    if !records::is_manifest(manifest) {
-        return parts::refuse(2);
-    }
-    if !records::valid_reference(request, manifest) {
-        return parts::refuse(2);
-    }
-    let intents = c.intents;
-    let roots = c.roots;
-    let pins = c.pins;
+    let tables = c.tables;
+    let intents = tables[image::INTENTS];
+    let pins = tables[image::PINS];
     let id = parts::clip(request, t.at, t.len);
     let first = id.len() + 1;
-    let p = tables::locate(&image::REFERENCE, image, pins.at, pins.count, id);
+    let p = tables::locate(&image::REFERENCE_ROW, image, pins.at, pins.count, id);
     let expected = option_at(request, 27 + first);
-    if !is_expected(tables::row(image, p), first, expected) {
-        return parts::refuse(8);
+    let status = pin_refusal(request, a, tables::row(image, p), first, expected);
+    if status != 0 {
+        return parts::refuse(status);
     }
     let m = 27 + first + expected.len();
     let bytes = first + parts::less(request.len(), m);
-    let c2 = edits::after_change(
-        c,
-        x.position,
-        intents,
-        roots,
-        edits::after_insert(pins, p, bytes),
-    );
+    let after = edits::after_insert(pins, p, bytes);
+    let mut d = next::raised(c, x.position);
+    d.tables[image::PINS] = after;
     let body = [
         0,
         intents.at,
@@ -91,7 +99,25 @@ pub fn pin(
         image.len(),
     ];
     let told = PublicationOutcome::Applied;
-    next::emit(0, c2, image, request, &body, image, told, next, outcome)
+    next::emit(image, d, image, request, &body, image, told, next, outcome)
+}
+
+// The same for a pin that is to go: its row holds just the reference that was expected.
+fn unpin_refusal(request: &[u8], a: Unpin, row: &[u8], first: usize, expected: &[u8]) -> u32
+    ensures { λ r. ⌜ r ≡ firstOf (unpinTests (textOf (now (request .entry)) (a .«pin_id»)) (referenceOf (now (request .entry)) (a .expected)) (sameOf (drop first (now (row .entry))) (now (expected .entry)))) ⌝ }
+{
+    let id = a.pin_id;
+    let reference = a.expected;
+    if records::is_empty(request, id) {
+        return 2;
+    }
+    if !records::valid_reference(request, reference) {
+        return 2;
+    }
+    if !edits::row_holds(row, first, expected) {
+        return 8;
+    }
+    0
 }
 
 pub fn unpin(
@@ -108,27 +134,20 @@ pub fn unpin(
     ensures { λ r. ⌜ Gave (applyBytes (now (image .entry)) (now (request .entry)) (length (now (next .entry))) (length (now (outcome .entry)))) (now (next .entry)) (now (outcome .entry)) r (now (next .exit)) (now (outcome .exit)) ⌝ }
 {
     let t = a.pin_id;
-    let expected = a.expected;
-    if records::is_empty(request, t) {
-        return parts::refuse(2);
-    }
-    if !records::valid_reference(request, expected) {
-        return parts::refuse(2);
-    }
-    let intents = c.intents;
-    let roots = c.roots;
-    let pins = c.pins;
+    let tables = c.tables;
+    let intents = tables[image::INTENTS];
+    let pins = tables[image::PINS];
     let id = parts::clip(request, t.at, t.len);
     let first = id.len() + 1;
-    let p = tables::locate(&image::REFERENCE, image, pins.at, pins.count, id);
-    if !edits::row_holds(
-        tables::row(image, p),
-        first,
-        parts::clip(request, 27 + first, request.len()),
-    ) {
-        return parts::refuse(8);
+    let p = tables::locate(&image::REFERENCE_ROW, image, pins.at, pins.count, id);
+    let expected = parts::clip(request, 27 + first, request.len());
+    let status = unpin_refusal(request, a, tables::row(image, p), first, expected);
+    if status != 0 {
+        return parts::refuse(status);
     }
-    let c2 = edits::after_change(c, x.position, intents, roots, edits::after_remove(pins, p));
+    let after = edits::after_remove(pins, p);
+    let mut d = next::raised(c, x.position);
+    d.tables[image::PINS] = after;
     let body = [
         0,
         intents.at,
@@ -138,5 +157,5 @@ pub fn unpin(
         image.len(),
     ];
     let told = PublicationOutcome::Applied;
-    next::emit(0, c2, image, request, &body, image, told, next, outcome)
+    next::emit(image, d, image, request, &body, image, told, next, outcome)
 }

@@ -12,7 +12,7 @@ use Rattle.parts.specs.Digits.{value}
 use Rattle.state.specs.Records.{SnapshotLeaseToken}
 use Rattle.machine.specs.Actions.{Action}
 use Rattle.fields.specs.Format.{Malformed, Res, ok, bad, bind, byte, El, dec}
-use Rattle.fields.specs.Codes.{codes, walk, forget, walk-codes, past, passed, skip, codeOf, codesOf}
+use Rattle.fields.specs.Codes.{codes, walk, forget, walk-codes, past, passed, skip, codeOf, codesOf, shape}
 use Rattle.fields.specs.Walks.{walkOf}
 use Rattle.fields.specs.declared.Walk.the-variants.{End, Fault}
 use Rattle.image.specs.Contents.{Reply, answer, refusal, whole}
@@ -51,7 +51,7 @@ never-whole r e q h = let z : _≡_ {A = ℕ} 0 1 = cc in absurd (omega arith)
 
 module _ (s : List ℕ) where
   abbrev head-walk : Res (Unit {0})
-  head-walk = walk 0 (codesOf (8 ∷ 8 ∷ 8 ∷ 2 ∷ [])) s
+  head-walk = walk 0 (codesOf (shape head)) s
 
   abbrev flags : ℕ
   flags = value (take 2 (drop 24 s))

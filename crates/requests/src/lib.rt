@@ -13,6 +13,13 @@ ghost use Rattle.requests.specs.Request.{read-fields, decodeRequest, dec
 ghost use Rattle.requests.specs.Meaning.{faultsOf, parsedOf, tokenReadOf};
 ghost use Rattle.requests.specs.Checked.{checkedOf};
 ghost use Rattle.requests.specs.Positions.{behind, fields-place, textIn, maybeTextIn, kindIn, keysIn, positionIn, contextIn, referenceIn, maybeReferenceIn, identityIn, intentIn, closureIn, leaseTokenIn, jobTokenIn, receiptIn, permitIn, windowIn, configureIn, acquireIn, renewIn, releaseIn, clockIn, collectIn, prepareIn, publishIn, pinIn, unpinIn, reserveIn, actionIn, parsedIn, tokenIn};
+use fields::KEY;
+use fields::KEYS;
+use fields::KIND;
+use fields::MALFORMED;
+use fields::MAYBE;
+use fields::NAME;
+use fields::U64;
 use fields::Walk;
 use image::MaybeText;
 use image::TextAt;
@@ -236,74 +243,83 @@ pub enum ParsedToken {
     Token(SnapshotLeaseToken),
 }
 
-// The shapes of parts of a record and of the actions, a code for each field (see the codes of the crate fields).
-const NUMBER: [u8; 1] = [8];
+// The shapes of parts of a record and of the actions, a code for each field.
+const MAYBE_NAME: [u8; 2] = [MAYBE + 1, NAME];
 
-const KIND: [u8; 1] = [9];
+const POSITION: [u8; 2] = [U64, U64];
 
-const NAME: [u8; 1] = [64];
-
-const KEY: [u8; 1] = [128];
-
-const KEYS: [u8; 1] = [10];
-
-const MAYBE_NAME: [u8; 2] = [12, 64];
-
-const POSITION: [u8; 2] = [8, 8];
-
-const REFERENCE: [u8; 4] = [9, 128, 8, 64];
-
-const MAYBE_REFERENCE: [u8; 5] = [15, 9, 128, 8, 64];
-
-const IDENTITY: [u8; 6] = [12, 64, 12, 64, 8, 64];
+const IDENTITY: [u8; 6] = [MAYBE + 1, NAME, MAYBE + 1, NAME, U64, NAME];
 
 const RECEIPT: [u8; 18] = [
-    64,
-    8,
-    8,
-    8,
-    8,
-    9,
-    128,
-    8,
-    64,
-    64,
-    8,
-    8,
-    128,
-    9,
-    128,
-    8,
-    64,
-    10,
+    NAME,
+    U64,
+    U64,
+    U64,
+    U64,
+    KIND,
+    KEY,
+    U64,
+    NAME,
+    NAME,
+    U64,
+    U64,
+    KEY,
+    KIND,
+    KEY,
+    U64,
+    NAME,
+    KEYS,
 ];
 
-const SET_WINDOW: [u8; 2] = [8, 8];
+const SET_WINDOW: [u8; 2] = [U64, U64];
 
-const CONFIGURE: [u8; 3] = [12, 64, 64];
+const CONFIGURE: [u8; 3] = [MAYBE + 1, NAME, NAME];
 
-const ACQUIRE: [u8; 11] = [64, 64, 8, 64, 64, 8, 9, 128, 8, 64, 10];
+const ACQUIRE: [u8; 11] = [NAME, NAME, U64, NAME, NAME, U64, KIND, KEY, U64, NAME, KEYS];
 
-const RENEW: [u8; 3] = [64, 8, 8];
+const RENEW: [u8; 3] = [NAME, U64, U64];
 
-const RELEASE: [u8; 2] = [64, 8];
+const RELEASE: [u8; 2] = [NAME, U64];
 
-const ADVANCE_CLOCK: [u8; 2] = [8, 8];
+const ADVANCE_CLOCK: [u8; 2] = [U64, U64];
 
-const COLLECT: [u8; 10] = [64, 8, 9, 128, 8, 64, 64, 8, 8, 128];
+const COLLECT: [u8; 10] = [NAME, U64, KIND, KEY, U64, NAME, NAME, U64, U64, KEY];
 
-const PREPARE: [u8; 12] = [64, 10, 9, 128, 8, 64, 64, 15, 9, 128, 8, 64];
+const PREPARE: [u8; 12] = [
+    NAME,
+    KEYS,
+    KIND,
+    KEY,
+    U64,
+    NAME,
+    NAME,
+    MAYBE + 4,
+    KIND,
+    KEY,
+    U64,
+    NAME,
+];
 
-const PUBLISH: [u8; 11] = [64, 64, 15, 9, 128, 8, 64, 9, 128, 8, 64];
+const PUBLISH: [u8; 11] = [
+    NAME,
+    NAME,
+    MAYBE + 4,
+    KIND,
+    KEY,
+    U64,
+    NAME,
+    KIND,
+    KEY,
+    U64,
+    NAME,
+];
 
-const PIN: [u8; 10] = [64, 15, 9, 128, 8, 64, 9, 128, 8, 64];
+const PIN: [u8; 10] = [NAME, MAYBE + 4, KIND, KEY, U64, NAME, KIND, KEY, U64, NAME];
 
-const UNPIN: [u8; 5] = [64, 9, 128, 8, 64];
-
-const RESERVE: [u8; 9] = [64, 8, 128, 12, 64, 12, 64, 8, 64];
+const RESERVE: [u8; 9] = [NAME, U64, KEY, MAYBE + 1, NAME, MAYBE + 1, NAME, U64, NAME];
 
 // Generation, term, index and fault flags.
-const HEAD: [u8; 4] = [8, 8, 8, 2];
+const HEAD: [u8; 4] = [U64, U64, U64, 2];
 
 const FLAGS_AT: usize = 24;
 
@@ -316,8 +332,6 @@ const ACTION_AT: usize = 26;
 // Its fields.
 const FIELDS_AT: usize = 27;
 
-const MALFORMED: u32 = 41;
-
 // The outcome of a check: whole and nothing after, or the first fault.
 enum Checked {
     Whole,
@@ -328,31 +342,31 @@ enum Checked {
 fn after_number(s: &[u8], at: usize) -> usize
     ensures { λ r. ⌜ r ≡ behind u64 (now (s .entry)) at ⌝ }
 {
-    tables::skip_record(&NUMBER, s, at)
+    tables::skip_record(&[U64], s, at)
 }
 
 fn after_kind(s: &[u8], at: usize) -> usize
     ensures { λ r. ⌜ r ≡ behind kind (now (s .entry)) at ⌝ }
 {
-    tables::skip_record(&KIND, s, at)
+    tables::skip_record(&[KIND], s, at)
 }
 
 fn after_name(s: &[u8], at: usize) -> usize
     ensures { λ r. ⌜ r ≡ behind name (now (s .entry)) at ⌝ }
 {
-    tables::skip_record(&NAME, s, at)
+    tables::skip_record(&[NAME], s, at)
 }
 
 fn after_key(s: &[u8], at: usize) -> usize
     ensures { λ r. ⌜ r ≡ behind key (now (s .entry)) at ⌝ }
 {
-    tables::skip_record(&KEY, s, at)
+    tables::skip_record(&[KEY], s, at)
 }
 
 fn after_keys(s: &[u8], at: usize) -> usize
     ensures { λ r. ⌜ r ≡ behind keys (now (s .entry)) at ⌝ }
 {
-    tables::skip_record(&KEYS, s, at)
+    tables::skip_record(&[KEYS], s, at)
 }
 
 fn after_maybe_name(s: &[u8], at: usize) -> usize
@@ -370,13 +384,13 @@ fn after_position(s: &[u8], at: usize) -> usize
 fn after_reference(s: &[u8], at: usize) -> usize
     ensures { λ r. ⌜ r ≡ behind reference (now (s .entry)) at ⌝ }
 {
-    tables::skip_record(&REFERENCE, s, at)
+    tables::skip_record(&image::REFERENCE, s, at)
 }
 
 fn after_maybe_reference(s: &[u8], at: usize) -> usize
     ensures { λ r. ⌜ r ≡ behind (option reference) (now (s .entry)) at ⌝ }
 {
-    tables::skip_record(&MAYBE_REFERENCE, s, at)
+    tables::skip_record(&image::MAYBE_REFERENCE, s, at)
 }
 
 fn after_identity(s: &[u8], at: usize) -> usize
@@ -760,9 +774,9 @@ fn check_fields(action: u8, s: &[u8]) -> Checked
     ensures { λ r. ⌜ r ≡ checkedOf (whole (read-fields action (drop 27 (now (s .entry))))) ⌝ }
 {
     match action {
-        1 => check_record(&NUMBER, s, FIELDS_AT),
+        1 => check_record(&[U64], s, FIELDS_AT),
         2 => check_record(&SET_WINDOW, s, FIELDS_AT),
-        3 => check_record(&NUMBER, s, FIELDS_AT),
+        3 => check_record(&[U64], s, FIELDS_AT),
         4 => check_record(&CONFIGURE, s, FIELDS_AT),
         5 => check_record(&ACQUIRE, s, FIELDS_AT),
         6 => check_record(&RENEW, s, FIELDS_AT),
@@ -774,7 +788,7 @@ fn check_fields(action: u8, s: &[u8]) -> Checked
         12 => check_record(&PREPARE, s, FIELDS_AT),
         13 => check_record(&PUBLISH, s, FIELDS_AT),
         14 => check_record(&PIN, s, FIELDS_AT),
-        15 => check_record(&UNPIN, s, FIELDS_AT),
+        15 => check_record(&image::REFERENCE_ROW, s, FIELDS_AT),
         16 => check_record(&RESERVE, s, FIELDS_AT),
         17 => check_record(&image::PERMIT, s, FIELDS_AT),
         _ => Checked::Fault(MALFORMED),

@@ -12,14 +12,14 @@ use Rattle.text.specs.Order.{orderOf}
 use Rattle.text.specs.OrderLaws.{flip, order-flip, order-trans}
 use Rattle.text.specs.declared.Order.the-variants.{Less, Greater}
 use Rattle.state.specs.Maps.{Text, any, is-empty}
-use Rattle.fields.specs.Codes.{Code, skip, past, codeOf, codesOf}
+use Rattle.fields.specs.Codes.{Code, skip, past, codeOf, codesOf, shape, shape-codes}
 use Rattle.fields.specs.Rows.{text-here}
 use Rattle.fields.specs.Walks.{placeOf, rest-drop, rest-trans, rest-place, hop-rest}
 use Rattle.tables.specs.Skips.{skip-rest}
 use Rattle.tables.specs.Seek.{nothing-at, seek, row-of}
 use Rattle.sets.specs.Sets.{texts-of, set-of}
-use Rattle.image.specs.CodeLists.{permit-codes}
 use Rattle.image.specs.declared.Table.{Table}
+use Rattle.image.specs.Shapes.{key, permit}
 use Rattle.reserved.specs.Located.{locatedIn, reservedIn}
 use Rattle.reserved.specs.Passed.{Passed}
 
@@ -37,7 +37,7 @@ module _ (P : Text → Bool) (s : List ℕ) where
   unfolding any texts-of
   any-end n i p h = let z : n - i ≡ 0 = omega arith in rw z
 
-  pub any-on : (n i p e : ℕ) (b : Bool) → i < n → P (text-here (drop p s)) ≡ b → e ≡ placeOf s (skip 0 (codesOf (128 ∷ [])) (drop p s))
+  pub any-on : (n i p e : ℕ) (b : Bool) → i < n → P (text-here (drop p s)) ≡ b → e ≡ placeOf s (skip 0 (codesOf (shape key)) (drop p s))
       → any P (texts-of (n - i) (drop p s)) ≡ (b || any P (texts-of (n - (i + 1)) (drop e s)))
   unfolding any texts-of skip past codesOf codeOf
   any-on n i p e b h q k =
@@ -121,6 +121,6 @@ module _ (cs : List Code) (s : List ℕ) (id : Text) (p n : ℕ) (t : Text) (e :
     }
 
 -- the test on reservations, with the codes of the source
-pub tested : (ignore b : Bool) (x : List ℕ) (t : Table) (ks : List Text) → ignore ≡ false → b ≡ any (locatedIn (codesOf (128 ∷ 12 ∷ 64 ∷ 12 ∷ 64 ∷ 8 ∷ 64 ∷ 64 ∷ 8 ∷ 8 ∷ 8 ∷ [])) (t .count) (drop (t .at) x)) ks
+pub tested : (ignore b : Bool) (x : List ℕ) (t : Table) (ks : List Text) → ignore ≡ false → b ≡ any (locatedIn (codesOf (shape permit)) (t .count) (drop (t .at) x)) ks
     → b ≡ (not ignore && reservedIn x t ks)
-tested ignore b x t ks h e = e ∙ ap (λ (cs : List Code). any (locatedIn cs (t .count) (drop (t .at) x)) ks) permit-codes ∙ ap (λ (i : Bool). not i && reservedIn x t ks) (sym h)
+tested ignore b x t ks h e = e ∙ ap (λ (cs : List Code). any (locatedIn cs (t .count) (drop (t .at) x)) ks) (shape-codes permit refl) ∙ ap (λ (i : Bool). not i && reservedIn x t ks) (sym h)

@@ -13,13 +13,13 @@ use Rattle.fields.specs.Codes.{Code, codes}
 use Rattle.tables.specs.Seek.{seek, row-of}
 use Rattle.tables.specs.SeekLaws.{Hopped}
 use Rattle.image.specs.Shapes.{permit}
-use Rattle.image.specs.Layout.{encodeImage, Formed}
-use Rattle.image.specs.Tables.{permit-row}
-use Rattle.image.specs.Opened.{contentsOf}
+use Rattle.image.specs.Layout.{TableName, reservations, map-of, row-format, Formed}
+use Rattle.image.specs.ImageParts.{row-bytes}
+use Rattle.image.specs.Opened.{Holds}
+use Rattle.image.specs.Stored.{find-row, stored-in}
+use Rattle.image.specs.TableLaws.{tableIn, behind, count-is, table-here}
 use Rattle.image.specs.declared.Contents.{Contents}
 use Rattle.image.specs.declared.Table.{Table}
-use Rattle.image.specs.ImageParts.{reservations-at, from-leases, at-reservations}
-use Rattle.image.specs.Stored.{find-row, reservations-stored}
 
 unfoldable pub locatedIn : List Code → ℕ → List ℕ → Text → Bool
 locatedIn cs n s id = not (is-empty (row-of (seek cs n id s)))
@@ -36,26 +36,33 @@ module _ {A : Type 0} (cs : List Code) (write : Entry A → List ℕ) (full : No
     row-there [] k = refl
     row-there ((j ⟼ v) ∷ l) k = ap not (full (j ⟼ v) (all write l))
 
-    pub located-is : (k : Text) → locatedIn cs (length m) (drop p x) k ≡ has-key k m
+    located-is : (k : Text) → locatedIn cs (length m) (drop p x) k ≡ has-key k m
     unfolding locatedIn
     located-is k = ap (λ (l : List ℕ). not (is-empty l)) (find-row cs write x p m r here hops k) ∙ row-there (at k m) k ∙ ap is-some (sym (lookup-is k m ascending))
 
-    pub any-located-is : (ks : List Text) → any (locatedIn cs (length m) (drop p x)) ks ≡ any (λ k. has-key k m) ks
-    unfolding any
-    any-located-is [] = refl
-    any-located-is (k ∷ ks) = λ i. located-is k i || any-located-is ks i
-
-permit-full : NotEmpty permit-row
+row-full : (t : TableName) → NotEmpty (row-bytes t)
 unfolding enc enc-text
-permit-full (k ⟼ v) r = refl
+row-full t e r = refl
+
+-- OF A STATE'S TABLE
+module _ {x : List ℕ} {c : Contents} {s : State} (h : Holds x c s) (f : Formed s) (t : TableName) where
+  abbrev located : Text → Bool
+  located k = locatedIn (codes (row-format t)) (tableIn t c .count) (drop (tableIn t c .at) x) k
+
+  pub has-row : (k : Text) → located k ≡ has-key k (map-of t s)
+  has-row k =
+      ap (λ (n : ℕ). locatedIn (codes (row-format t)) n (drop (tableIn t c .at) x) k) (count-is h t)
+      ∙ located-is (codes (row-format t)) (row-bytes t) (row-full t) x (tableIn t c .at) (map-of t s) (behind t s) (table-here h t) (stored-in t s f .ascending) (stored-in t s f .hopped) k
+
+  any-row : (ks : List Text) → any located ks ≡ any (λ k. has-key k (map-of t s)) ks
+  unfolding any
+  any-row [] = refl
+  any-row (k ∷ ks) = λ i. has-row k i || any-row ks i
 
 -- RESERVED KEYS: those with a row in the table of reservations; of a state, those that the map has
 abbrev pub reservedIn : List ℕ → Table → List Text → Bool
 reservedIn x t ks = any (locatedIn (codes permit) (t .count) (drop (t .at) x)) ks
 
-pub reserved-here : (s : State) (x : List ℕ) → encodeImage s ≡ x → Formed s → (c : Contents) → c ≡ contentsOf s → (ks : List Text)
-    → reservedIn x (c .reservations) ks ≡ any (λ k. has-key k (s .deletion-reservations)) ks
-reserved-here s x e f c o ks =
-    ap (λ (d : Contents). reservedIn x (d .reservations) ks) o
-    ∙ any-located-is (codes permit) permit-row permit-full x (reservations-at s) (s .deletion-reservations) (from-leases s) (ap (drop (reservations-at s)) (sym e) ∙ at-reservations s)
-    (reservations-stored s f .ascending) (reservations-stored s f .hopped) ks
+pub reserved-here : {x : List ℕ} {c : Contents} {s : State} → Holds x c s → Formed s → (ks : List Text)
+    → reservedIn x (tableIn reservations c) ks ≡ any (λ k. has-key k (s .deletion-reservations)) ks
+reserved-here h f ks = any-row h f reservations ks

@@ -90,7 +90,6 @@ fn any_located(codes: &[u8], s: &[u8], at: usize, n: usize, holder: &[u8], set_a
         return false;
     }
     let keys = holder[set_at];
-    let key = [128u8];
     let mut i = 0;
     let mut p = set_at + 1;
     let mut last = p;
@@ -113,7 +112,7 @@ fn any_located(codes: &[u8], s: &[u8], at: usize, n: usize, holder: &[u8], set_a
             return true;
         }
         last = p;
-        p = tables::skip_record(&key, holder, p);
+        p = tables::skip_record(&[fields::KEY], holder, p);
         i += 1;
     }
     false

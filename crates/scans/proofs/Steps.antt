@@ -8,15 +8,15 @@ use native.Mathlib.Nat.{sub-zero}
 use lib.ListN.{length, drop}
 use Rattle.state.specs.Maps.{Every, any, contains, same, starts-with}
 use Rattle.fields.specs.Format.{_▹_}
-use Rattle.fields.specs.Codes.{Code, a-text, codes, skip, key-limit, codeOf, codesOf}
+use Rattle.fields.specs.Codes.{Code, a-text, codes, skip, key-limit, codesOf, shape, shape-codes}
 use Rattle.fields.specs.Rows.{text-here}
 use Rattle.fields.specs.Walks.{placeOf, drop-within}
 use Rattle.sets.specs.Sets.{set-of}
 use Rattle.tables.specs.Seek.{rows-at}
 use Rattle.reader.specs.Records.{record-of}
 use Rattle.reader.specs.OwnBytes.{Plain, text-own}
-use Rattle.image.specs.Shapes.{u64, name, key, job}
-use Rattle.scans.specs.Scans.{namesAt, before-manifest-key, before-namespace, usesAt}
+use Rattle.image.specs.Shapes.{u64, name, key, job, before-manifest-key, before-namespace}
+use Rattle.scans.specs.Scans.{namesAt, usesAt}
 use Rattle.tables.specs.Skips.{after-record}
 
 module _ (T : List ℕ → Bool) (cs : List Code) (s : List ℕ) (n i p : ℕ) where
@@ -50,30 +50,22 @@ unfolding namesAt
 names-told cs k s p a b c e h g = sym (ap (λ (l : List ℕ). contains k (set-of l)) (ap (λ (j : ℕ). drop j s) e ∙ after-record cs s p)) ∙ sym h ∙ g
 
 -- what was found of the texts of a job
-manifest-codes : codesOf (64 ∷ 8 ∷ 8 ∷ 8 ∷ 8 ∷ 9 ∷ []) ≡ codes before-manifest-key
-unfolding codesOf codeOf codes
-manifest-codes = refl
-
-namespace-codes : codesOf (64 ∷ 8 ∷ 8 ∷ 8 ∷ 8 ∷ 9 ∷ 128 ∷ 8 ∷ 64 ∷ 64 ∷ 8 ∷ 8 ∷ []) ≡ codes before-namespace
-unfolding codesOf codeOf codes
-namespace-codes = refl
-
 text-told : (cs ds : List Code) (s t : List ℕ) (a : ℕ) → cs ≡ ds → a ≡ placeOf s (skip 0 cs s) → t ≡ text-here (drop a s) → t ≡ text-here (skip 0 ds s)
 text-told cs ds s t a w e h = h ∙ ap (λ (l : List ℕ). text-here l) (ap (λ (j : ℕ). drop j s) (e ∙ ap (λ (us : List Code). placeOf s (skip 0 us s)) w) ∙ after-record ds s 0)
 
-module _ (k s t : List ℕ) (a : ℕ) (b : Bool) (e : a ≡ placeOf s (skip 0 (codesOf (64 ∷ 8 ∷ 8 ∷ 8 ∷ 8 ∷ 9 ∷ [])) s)) (h : t ≡ text-here (drop a s)) (f : b ≡ same t k) where
+module _ (k s t : List ℕ) (a : ℕ) (b : Bool) (e : a ≡ placeOf s (skip 0 (codesOf (shape before-manifest-key)) s)) (h : t ≡ text-here (drop a s)) (f : b ≡ same t k) where
   manifest-told : b ≡ same (text-here (skip 0 (codes before-manifest-key) s)) k
-  manifest-told = f ∙ ap (λ (u : List ℕ). same u k) (text-told _ _ s t a manifest-codes e h)
+  manifest-told = f ∙ ap (λ (u : List ℕ). same u k) (text-told _ _ s t a (shape-codes before-manifest-key refl) e h)
 
   pub uses-first : b ≡ true → true ≡ usesAt k s
   unfolding usesAt
   uses-first g = sym (ap (λ (c : Bool). c || starts-with k (text-here (skip 0 (codes before-namespace) s))) (sym manifest-told ∙ g))
 
-  pub uses-second : b ≡ false → (t′ : List ℕ) (a′ : ℕ) (b′ : Bool) → a′ ≡ placeOf s (skip 0 (codesOf (64 ∷ 8 ∷ 8 ∷ 8 ∷ 8 ∷ 9 ∷ 128 ∷ 8 ∷ 64 ∷ 64 ∷ 8 ∷ 8 ∷ [])) s)
+  pub uses-second : b ≡ false → (t′ : List ℕ) (a′ : ℕ) (b′ : Bool) → a′ ≡ placeOf s (skip 0 (codesOf (shape before-namespace)) s)
       → t′ ≡ text-here (drop a′ s) → b′ ≡ starts-with k t′ → b′ ≡ usesAt k s
   unfolding usesAt
   uses-second g t′ a′ b′ e′ h′ f′ =
-      f′ ∙ ap (λ (u : List ℕ). starts-with k u) (text-told _ _ s t′ a′ namespace-codes e′ h′)
+      f′ ∙ ap (λ (u : List ℕ). starts-with k u) (text-told _ _ s t′ a′ (shape-codes before-namespace refl) e′ h′)
       ∙ sym (ap (λ (c : Bool). c || starts-with k (text-here (skip 0 (codes before-namespace) s))) (sym manifest-told ∙ g))
 
 -- a job is told by its own bytes, as the reader hands them out

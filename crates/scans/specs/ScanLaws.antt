@@ -1,25 +1,27 @@
 -- On the bytes of a state's tables, what the rows say of a key is what the maps say.
 use Prim.Native.Nat.{ℕ, suc}
-use mathlib.Core.List.{List, [], _∷_, _++_, append-assoc, append-nil}
+use mathlib.Core.List.{List, [], _∷_, _++_, append-assoc}
 use mathlib.Core.Bool.{Bool, _||_}
 use mathlib.Core.Path.{_≡_, refl, sym, ap, _∙_}
 use lib.ListN.{length, drop}
-use Rattle.state.specs.Maps.{Text, Map, Entry, _⟼_, key-of, same, starts-with, contains, any, any-value, Every}
+use Rattle.state.specs.Maps.{Text, Map, Entry, _⟼_, key-of, same, starts-with, contains, any, any-value}
 use Rattle.state.specs.Records.{PreparedPublication, SnapshotLeaseToken, CollectionJobToken, State, names}
 use Rattle.fields.specs.Format.{Field, option, set, _▹_, El, enc, enc-text, all}
-use Rattle.fields.specs.Codes.{Code, codes, skip, set-most, key-limit, codeOf, codesOf}
+use Rattle.fields.specs.Codes.{Code, codes, skip, set-most, key-limit, codesOf, shape, shape-codes}
 use Rattle.fields.specs.Rows.{text-here, text-there}
 use Rattle.sets.specs.Sets.{texts-of, set-of}
 use Rattle.tables.specs.Seek.{rows-at}
-use Rattle.tables.specs.SeekLaws.{Hopped, tails, rows-are}
-use Rattle.image.specs.Body.{row}
-use Rattle.image.specs.Shapes.{short, u64, name, key, keys, position, reference, prepared, lease, job, reference-parts, prepared-parts, position-parts}
-use Rattle.image.specs.Layout.{encodeImage, Formed}
+use Rattle.tables.specs.SeekLaws.{tails, rows-are}
+use Rattle.image.specs.Shapes.{short, u64, name, key, keys, position, reference, prepared, lease, job, reference-parts, prepared-parts, position-parts, before-closure-keys, before-intent-keys, before-manifest-key, before-namespace}
+use Rattle.image.specs.Layout.{TableName, intents, leases, jobs, Value, map-of, row-format, Formed}
 use Rattle.image.specs.Tables.{intent-row, lease-row, job-row}
-use Rattle.image.specs.ImageParts.{intents-at, leases-at, jobs-at, from-roots, from-jobs, at-intents, at-leases, at-jobs}
-use Rattle.image.specs.Stored.{intents-stored, leases-stored, jobs-stored}
+use Rattle.image.specs.ImageParts.{row-bytes}
+use Rattle.image.specs.Opened.{Holds}
+use Rattle.image.specs.Stored.{stored-in}
+use Rattle.image.specs.TableLaws.{tableIn, behind, count-is, table-here}
+use Rattle.image.specs.declared.Contents.{Contents}
 use Rattle.next.specs.Peeks.{hop-text, skip-to}
-use Rattle.scans.specs.Scans.{namesAt, before-manifest-key, before-namespace, usesAt}
+use Rattle.scans.specs.Scans.{namesAt, usesAt}
 
 -- ---- texts and sets that were written
 
@@ -44,12 +46,14 @@ unfolding any any-value tails
 any-rows cs write T P h [] r = refl
 any-rows cs write T P h ((k ⟼ v) ∷ m) r = λ i. h k v (all write m ++ r) i || any-rows cs write T P h m r i
 
-any-here : {A : Type 0} (cs : List Code) (write : Entry A → List ℕ) (T : List ℕ → Bool) (P : A → Bool) → ((k : Text) (v : A) (r : List ℕ) → T (write (k ⟼ v) ++ r) ≡ P v)
-    → (x y : List ℕ) → y ≡ x → (p : ℕ) (m : Map A) (r : List ℕ) → drop p y ≡ all write m ++ r → Every (Hopped cs write key-of) m → any T (rows-at cs (length m) (drop p x)) ≡ any-value P m
-any-here cs write T P h x y e p m r d hops =
-    ap (λ (l : List ℕ). any T (rows-at cs (length m) l)) (ap (drop p) (sym e) ∙ d)
-    ∙ ap (any T) (rows-are cs write key-of m r hops)
-    ∙ any-rows cs write T P h m r
+-- of a state's table
+any-here : {x : List ℕ} {c : Contents} {s : State} → Holds x c s → Formed s → (t : TableName) (T : List ℕ → Bool) (P : Value t → Bool)
+    → ((k : Text) (v : Value t) (r : List ℕ) → T (row-bytes t (k ⟼ v) ++ r) ≡ P v)
+    → any T (rows-at (codes (row-format t)) (tableIn t c .count) (drop (tableIn t c .at) x)) ≡ any-value P (map-of t s)
+any-here {x} {c} {s} h f t T P e =
+    (λ i. any T (rows-at (codes (row-format t)) (count-is h t i) (table-here h t i)))
+    ∙ ap (any T) (rows-are (codes (row-format t)) (row-bytes t) key-of (map-of t s) (behind t s) (stored-in t s f .hopped))
+    ∙ any-rows (codes (row-format t)) (row-bytes t) T P e (map-of t s) (behind t s)
 
 -- a set after some fields
 names-row : (f : Field) (v : El f) (m n : ℕ) (ts : List Text) (k : Text) (r : List ℕ) → namesAt (codes f) k (enc f v ++ (enc (set m n) ts ++ r)) ≡ contains k ts
@@ -58,35 +62,21 @@ names-row f v m n ts k r = ap (λ (l : List ℕ). contains k (set-of l)) (skip-t
 
 -- ---- intents: the set stands after id and owner
 
-abbrev before-intent : Field
-before-intent = name ▹ u64
-
-intent-before : codesOf (64 ∷ 8 ∷ []) ≡ codes before-intent
-unfolding codesOf codeOf codes
-intent-before = refl
-
 seam : (f g : Field) (v : El (f ▹ g)) (r : List ℕ) → enc (f ▹ g) v ++ r ≡ enc f (v .0) ++ (enc g (v .1) ++ r)
 unfolding enc
 seam f g v r = append-assoc (enc f (v .0)) (enc g (v .1)) r
 
-intent-names : (k j : Text) (p : PreparedPublication) (r : List ℕ) → namesAt (codes before-intent) k (intent-row (j ⟼ p) ++ r) ≡ contains k (p .intent .object-keys)
+intent-names : (k j : Text) (p : PreparedPublication) (r : List ℕ) → namesAt (codes before-intent-keys) k (intent-row (j ⟼ p) ++ r) ≡ contains k (p .intent .object-keys)
 intent-names k j p r =
     let g = reference ▹ name ▹ option reference in
     let b = enc g (prepared-parts p .1 .1) in
-    let e : intent-row (j ⟼ p) ++ r ≡ enc before-intent (j, p .owner-generation) ++ (enc keys (p .intent .object-keys) ++ (b ++ r)) =
+    let e : intent-row (j ⟼ p) ++ r ≡ enc before-intent-keys (j, p .owner-generation) ++ (enc keys (p .intent .object-keys) ++ (b ++ r)) =
     seam name prepared (j, prepared-parts p) r
     ∙ ap (λ (l : List ℕ). enc name j ++ l) (seam u64 (keys ▹ g) (prepared-parts p) r ∙ ap (λ (l : List ℕ). enc u64 (p .owner-generation) ++ l) (seam keys g (prepared-parts p .1) r))
     ∙ sym (seam name u64 (j, p .owner-generation) (enc keys (p .intent .object-keys) ++ (b ++ r))) in
-    ap (namesAt (codes before-intent) k) e ∙ names-row before-intent (j, p .owner-generation) set-most key-limit (p .intent .object-keys) k (b ++ r)
+    ap (namesAt (codes before-intent-keys) k) e ∙ names-row before-intent-keys (j, p .owner-generation) set-most key-limit (p .intent .object-keys) k (b ++ r)
 
 -- ---- leases: the set stands after the closure's manifest
-
-abbrev before-closure-keys : Field
-before-closure-keys = name ▹ name ▹ u64 ▹ u64 ▹ name ▹ name ▹ u64 ▹ reference
-
-lease-before : codesOf (64 ∷ 64 ∷ 8 ∷ 8 ∷ 64 ∷ 64 ∷ 8 ∷ 9 ∷ 128 ∷ 8 ∷ 64 ∷ []) ≡ codes before-closure-keys
-unfolding codesOf codeOf codes
-lease-before = refl
 
 lease-names : (k j : Text) (t : SnapshotLeaseToken) (r : List ℕ) → namesAt (codes before-closure-keys) k (lease-row (j ⟼ t) ++ r) ≡ names (t .closure) k
 unfolding enc
@@ -119,20 +109,18 @@ job-uses k j t r =
     λ i. same (a i) k || starts-with k (c i)
 
 -- THE SCANS OF A STATE'S TABLES
-module _ (s : State) (x : List ℕ) (e : encodeImage s ≡ x) (f : Formed s) (k : Text) where
-  pub intents-name : any (namesAt (codesOf (64 ∷ 8 ∷ [])) k) (rows-at (codes (row short prepared)) (length (s .intents)) (drop (intents-at s) x))
+module _ {x : List ℕ} {c : Contents} {s : State} (h : Holds x c s) (f : Formed s) (k : Text) where
+  pub intents-name : any (namesAt (codesOf (shape before-intent-keys)) k) (rows-at (codesOf (shape (row-format intents))) (tableIn intents c .count) (drop (tableIn intents c .at) x))
       ≡ any-value (λ prepared. contains k (prepared .intent .object-keys)) (s .intents)
   intents-name =
-      ap (λ (cs : List Code). any (namesAt cs k) (rows-at (codes (row short prepared)) (length (s .intents)) (drop (intents-at s) x))) intent-before
-      ∙ any-here (codes (row short prepared)) intent-row (namesAt (codes before-intent) k) (λ p. contains k (p .intent .object-keys)) (intent-names k) x (encodeImage s) e (intents-at s) (s .intents) (from-roots s) (at-intents s) (intents-stored s f .hopped)
+      (λ i. any (namesAt (shape-codes before-intent-keys refl i) k) (rows-at (shape-codes (row-format intents) refl i) (tableIn intents c .count) (drop (tableIn intents c .at) x)))
+      ∙ any-here h f intents (namesAt (codes before-intent-keys) k) (λ p. contains k (p .intent .object-keys)) (intent-names k)
 
-  pub leases-name : any (namesAt (codesOf (64 ∷ 64 ∷ 8 ∷ 8 ∷ 64 ∷ 64 ∷ 8 ∷ 9 ∷ 128 ∷ 8 ∷ 64 ∷ [])) k) (rows-at (codes lease) (length (s .leases)) (drop (leases-at s) x))
+  pub leases-name : any (namesAt (codesOf (shape before-closure-keys)) k) (rows-at (codesOf (shape lease)) (tableIn leases c .count) (drop (tableIn leases c .at) x))
       ≡ any-value (λ lease. names (lease .closure) k) (s .leases)
   leases-name =
-      ap (λ (cs : List Code). any (namesAt cs k) (rows-at (codes lease) (length (s .leases)) (drop (leases-at s) x))) lease-before
-      ∙ any-here (codes lease) lease-row (namesAt (codes before-closure-keys) k) (λ t. names (t .closure) k) (lease-names k) x (encodeImage s) e (leases-at s) (s .leases) (from-jobs s) (at-leases s) (leases-stored s f .hopped)
+      (λ i. any (namesAt (shape-codes before-closure-keys refl i) k) (rows-at (shape-codes lease refl i) (tableIn leases c .count) (drop (tableIn leases c .at) x)))
+      ∙ any-here h f leases (namesAt (codes before-closure-keys) k) (λ t. names (t .closure) k) (lease-names k)
 
-  pub jobs-use : any (usesAt k) (rows-at (codes job) (length (s .collection-jobs)) (drop (jobs-at s) x)) ≡ any-value (uses k) (s .collection-jobs)
-  unfolding all
-  jobs-use =
-      any-here (codes job) job-row (usesAt k) (uses k) (job-uses k) x (encodeImage s) e (jobs-at s) (s .collection-jobs) [] (at-jobs s ∙ sym (append-nil (from-jobs s))) (jobs-stored s f .hopped)
+  pub jobs-use : any (usesAt k) (rows-at (codes job) (tableIn jobs c .count) (drop (tableIn jobs c .at) x)) ≡ any-value (uses k) (s .collection-jobs)
+  jobs-use = any-here h f jobs (usesAt k) (uses k) (job-uses k)

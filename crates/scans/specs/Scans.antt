@@ -3,22 +3,15 @@ use Prim.Native.Nat.{ℕ}
 use mathlib.Core.List.{List}
 use mathlib.Core.Bool.{Bool, _||_}
 use Rattle.state.specs.Maps.{Text, same, starts-with, contains}
-use Rattle.fields.specs.Format.{Field, kind, _▹_}
 use Rattle.fields.specs.Codes.{Code, codes, skip}
 use Rattle.fields.specs.Rows.{text-here}
 use Rattle.sets.specs.Sets.{set-of}
-use Rattle.image.specs.Shapes.{u64, name, position, reference}
+use Rattle.image.specs.Shapes.{before-manifest-key, before-namespace}
 
 -- the set after some fields has the key
 unfoldable pub namesAt : List Code → Text → List ℕ → Bool
 namesAt cs k r = contains k (set-of (skip 0 cs r))
 
--- a job's fields up to the key of its input manifest, and up to its output namespace
-abbrev pub before-manifest-key : Field
-before-manifest-key = name ▹ u64 ▹ position ▹ u64 ▹ kind
-
-abbrev pub before-namespace : Field
-before-namespace = name ▹ u64 ▹ position ▹ u64 ▹ reference ▹ name ▹ u64 ▹ u64
-
+-- the key of a job's input manifest is the key, or its output namespace begins it
 unfoldable pub usesAt : Text → List ℕ → Bool
 usesAt k r = same (text-here (skip 0 (codes before-manifest-key) r)) k || starts-with k (text-here (skip 0 (codes before-namespace) r))

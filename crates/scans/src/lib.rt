@@ -27,17 +27,21 @@ pub fn any_names(codes: &[u8], hops: &[u8], s: &[u8], at: usize, n: usize, key: 
 fn job_uses(job: &[u8], key: &[u8]) -> bool
     ensures { λ r. ⌜ r ≡ usesAt (now (key .entry)) (now (job .entry)) ⌝ }
 {
-    let manifest_key = [64u8, 8, 8, 8, 8, 9];
-    let namespace = [64u8, 8, 8, 8, 8, 9, 128, 8, 64, 64, 8, 8];
     if text::same(
-        fields::text_at(job, tables::skip_record(&manifest_key, job, 0)),
+        fields::text_at(
+            job,
+            tables::skip_record(&image::JOB[..image::JOB_MANIFEST_KEY], job, 0),
+        ),
         key,
     ) {
         return true;
     }
     text::starts_with(
         key,
-        fields::text_at(job, tables::skip_record(&namespace, job, 0)),
+        fields::text_at(
+            job,
+            tables::skip_record(&image::JOB[..image::JOB_NAMESPACE], job, 0),
+        ),
     )
 }
 

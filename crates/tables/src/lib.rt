@@ -91,19 +91,19 @@ fn hop_code(code: u8, s: &[u8], at: usize) -> Hop
     ensures { λ r. ⌜ r ≡ record { at = placeOf (now (s .entry)) (past (codeOf code) (drop at (now (s .entry)))); over = passed (codeOf code) (drop at (now (s .entry))) } ⌝ }
 {
     match code {
-        9 => Hop {
+        fields::KIND => Hop {
             at: further(s, at, 1),
             over: 0,
         },
-        10 => Hop {
+        fields::KEYS => Hop {
             at: hop_keys(s, at),
             over: 0,
         },
-        0..=8 => Hop {
+        0..=fields::U64 => Hop {
             at: further(s, at, code as usize),
             over: 0,
         },
-        11..=31 => hop_flag((code - 11) as usize, s, at),
+        fields::MAYBE..=fields::LAST_MAYBE => hop_flag((code - fields::MAYBE) as usize, s, at),
         _ => Hop {
             at: hop_text(s, at),
             over: 0,

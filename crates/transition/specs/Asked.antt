@@ -14,11 +14,9 @@ use Rattle.state.specs.Records.{State, AuthorityContext, PublicationAuthorityFa
 use Rattle.machine.specs.Actions.{Action, Transition, rejected, decide}
 use Rattle.machine.specs.Machine.{rule, stamp, apply}
 use Rattle.image.specs.Contents.{answer, refusal}
-use Rattle.image.specs.Layout.{decodeImage, encodeImage, Formed}
-use Rattle.image.specs.LayoutLaws.{one-image}
-use Rattle.image.specs.Opened.{contentsOf, openedOf}
+use Rattle.image.specs.Layout.{decodeImage}
+use Rattle.image.specs.OpenedLaws.{OpenedAs}
 use Rattle.image.specs.declared.Contents.{Contents}
-use Rattle.image.specs.declared.Opened.the-variants.{Image}
 use Rattle.requests.specs.Request.{decodeRequest, encodeRequest, WithinRequest}
 use Rattle.requests.specs.RequestLaws.{request-written}
 use Rattle.requests.specs.Meaning.{contextOf, faultsOf, actionOf, requestOf}
@@ -27,28 +25,21 @@ use Rattle.requests.specs.declared.Parsed.{Parsed}
 use Rattle.requests.specs.declared.PublicationAction.{PublicationAction}
 use Rattle.requests.specs.declared.Request.{Request as RequestAt}
 use Rattle.entries.specs.Bytes.{settled, applyBytes}
-use Rattle.validation.specs.Validation.{opened-state}
 use Rattle.next.specs.Call.{Ready}
 
 -- before format and context are tested
 pub record Asked (x : List ℕ) (c : Contents) (q : List ℕ) (r : RequestAt) : Type 0 where
-  pub state : State
-  pub reads : decodeImage x ≡ some state
-  pub image-is : encodeImage state ≡ x
-  pub formed : Formed state
-  pub opened : c ≡ contentsOf state
+  pub opened : OpenedAs x c
   pub asked : decodeRequest q ≡ answer (requestOf q r)
   pub request-is : q ≡ encodeRequest (requestOf q r)
   pub placed : r ≡ requestIn q
   pub within : WithinRequest (requestOf q r)
 
-pub asked-of : (x q : List ℕ) (c : Contents) (r : RequestAt) → Bytes x → Bytes q → Image c ≡ openedOf (decodeImage x) → answer (requestOf q r) ≡ decodeRequest q → Parsed.Asked r ≡ parsedIn q (decodeRequest q) → Asked x c q r
-asked-of x q c r bx bq o d p =
-    let (s, e, h) = opened-state (decodeImage x) c o in
-    let (i, f) = one-image x s bx e in
+pub asked-of : (x q : List ℕ) (c : Contents) (r : RequestAt) → OpenedAs x c → Bytes q → answer (requestOf q r) ≡ decodeRequest q → Parsed.Asked r ≡ parsedIn q (decodeRequest q) → Asked x c q r
+asked-of x q c r o bq d p =
     let (w, v) = request-written q (requestOf q r) bq (sym d) in
     let z : Parsed.Asked r ≡ Parsed.Asked (requestIn q) = p ∙ ap (parsedIn q) (sym d) in
-    record { state = s; reads = e; image-is = i; formed = f; opened = h; asked = sym d; request-is = w; placed = cc; within = v }
+    record { opened = o; asked = sym d; request-is = w; placed = cc; within = v }
 
 -- 40, and the faults of a request
 pub no-image : {d e : List ℕ} {p : Applied} (x q : List ℕ) → decodeImage x ≡ none → p ≡ appliedOf (no 40) → Gave (applyBytes x q (length d) (length e)) d e p d e
@@ -71,37 +62,37 @@ module _ (s : State) (a : Action) (c : AuthorityContext) (f : PublicationAuthori
   apply-context h k = simp (h, k)
 
 module _ {x : List ℕ} {c : Contents} {q : List ℕ} {r : RequestAt} (a : Asked x c q r) where
-  rejects : {d e : List ℕ} {p : Applied} → apply (a .state) (actionOf q (r .action)) (contextOf (r .context)) (faultsOf (r .faults)) ≡ rejected 2 → p ≡ appliedOf (no 2)
+  rejects : {d e : List ℕ} {p : Applied} → apply (a .opened .state) (actionOf q (r .action)) (contextOf (r .context)) (faultsOf (r .faults)) ≡ rejected 2 → p ≡ appliedOf (no 2)
       → Gave (applyBytes x q (length d) (length e)) d e p d e
   unfolding applyBytes
-  rejects {d} {e} {p} h k = gave-no 2 (rw (a .reads, a .asked) (ap (λ (t : Transition). settled (length d) (length e) (answer t)) h)) k
+  rejects {d} {e} {p} h k = gave-no 2 (rw (a .opened .reads, a .asked) (ap (λ (t : Transition). settled (length d) (length e) (answer t)) h)) k
 
-  version-is : a .state .format-version ≡ c .«format_version»
-  version-is = sym (ap (λ (k : Contents). k .«format_version») (a .opened))
+  version-is : a .opened .state .format-version ≡ c .«format_version»
+  version-is = sym (a .opened .holds .shows .version)
 
   pub other-format : {d e : List ℕ} {p : Applied} → (c .«format_version» ≡ 1 → ⊥) → p ≡ appliedOf (no 2) → Gave (applyBytes x q (length d) (length e)) d e p d e
-  other-format h k = rejects (apply-format (a .state) (actionOf q (r .action)) (contextOf (r .context)) (faultsOf (r .faults)) (ne-eqb (a .state .format-version) 1 (λ z. h (sym version-is ∙ z)))) k
+  other-format h k = rejects (apply-format (a .opened .state) (actionOf q (r .action)) (contextOf (r .context)) (faultsOf (r .faults)) (ne-eqb (a .opened .state .format-version) 1 (λ z. h (sym version-is ∙ z)))) k
 
   module _ (h : c .«format_version» ≡ 1) where
-    format : eqb (a .state .format-version) 1 ≡ true
-    format = eq-eqb (a .state .format-version) 1 (version-is ∙ h)
+    format : eqb (a .opened .state .format-version) 1 ≡ true
+    format = eq-eqb (a .opened .state .format-version) 1 (version-is ∙ h)
 
     pub no-generation : {d e : List ℕ} {p : Applied} → r .context .generation ≡ 0 → p ≡ appliedOf (no 2) → Gave (applyBytes x q (length d) (length e)) d e p d e
     unfolding valid-context
-    no-generation g k = rejects (apply-context (a .state) (actionOf q (r .action)) (contextOf (r .context)) (faultsOf (r .faults)) format (simp (eq-eqb (r .context .generation) 0 g))) k
+    no-generation g k = rejects (apply-context (a .opened .state) (actionOf q (r .action)) (contextOf (r .context)) (faultsOf (r .faults)) format (simp (eq-eqb (r .context .generation) 0 g))) k
 
     pub no-index : {d e : List ℕ} {p : Applied} → (r .context .generation ≡ 0 → ⊥) → r .context .position .index ≡ 0 → p ≡ appliedOf (no 2) → Gave (applyBytes x q (length d) (length e)) d e p d e
     unfolding valid-context
-    no-index g i k = rejects (apply-context (a .state) (actionOf q (r .action)) (contextOf (r .context)) (faultsOf (r .faults)) format (simp (ne-eqb (r .context .generation) 0 g, eq-eqb (r .context .position .index) 0 i))) k
+    no-index g i k = rejects (apply-context (a .opened .state) (actionOf q (r .action)) (contextOf (r .context)) (faultsOf (r .faults)) format (simp (ne-eqb (r .context .generation) 0 g, eq-eqb (r .context .position .index) 0 i))) k
 
     pub ready-of : (r .context .generation ≡ 0 → ⊥) → (r .context .position .index ≡ 0 → ⊥) → Ready x c q r
     unfolding valid-context
     ready-of g i = record {
-      state = a .state;
-      reads = a .reads;
-      image-is = a .image-is;
-      formed = a .formed;
-      opened = a .opened;
+      state = a .opened .state;
+      reads = a .opened .reads;
+      formed = a .opened .formed;
+      holds = a .opened .holds;
+      short = a .opened .short;
       asked = a .asked;
       request-is = a .request-is;
       placed = a .placed;

@@ -7,7 +7,6 @@ ghost use Rattle.entries.specs.Bytes.{applyBytes};
 ghost use Rattle.next.specs.Call.{Ready};
 ghost use Rattle.transition.specs.Asked.{Asked};
 use image::Contents;
-use image::Opened;
 use parts::Applied;
 use requests::Parsed;
 use requests::PublicationAction;
@@ -223,9 +222,10 @@ pub fn apply(image: &[u8], request: &[u8], next: &mut [u8], outcome: &mut [u8]) 
     ensures told { λ r. ⌜ now (outcome .exit) ≡ over (now (outcome .entry)) 0 (outcomeOf (applyBytes (now (image .entry)) (now (request .entry)) (length (now (next .entry))) (length (now (outcome .entry))))) ⌝ }
 {
     let o = image::open(image);
-    let Opened::Image(c) = o else {
+    if !o.found {
         return parts::refuse(40);
-    };
+    }
+    let c = o.contents;
     let p = requests::parse(request);
     match p {
         Parsed::Fault(e) => parts::refuse(e),

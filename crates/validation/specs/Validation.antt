@@ -3,10 +3,10 @@ use Prim.Native.Nat.{ℕ, _≤_, _<_}
 use native.Mathlib.Omega.{arith}
 use mathlib.Core.Bool.{Bool, true, false, cond}
 use mathlib.Core.List.{List, [], _∷_, append-nil}
-use mathlib.Core.Option.{Option, none, some}
+use mathlib.Core.Option.{none, some}
 use mathlib.Core.Path.{_≡_, refl, sym, ap, _∙_}
 use lib.Dec.{leb}
-use lib.ListN.{length, drop}
+use lib.ListN.{length, drop, getD}
 use borrow.Author.Tests.{eq-eqb, ne-eqb, le-leb, lt-leb}
 use Rattle.text.specs.Same.{sameOf}
 use Rattle.parts.specs.Digits.{Bytes}
@@ -16,20 +16,17 @@ use Rattle.state.specs.Sorted.{Ascending}
 use Rattle.next.specs.Edit.{Standing, absent, present, standing}
 use Rattle.state.specs.Records.{State, SnapshotLeaseToken}
 use Rattle.fields.specs.Format.{all, enc, enc-text, Within}
-use Rattle.fields.specs.Codes.{codes, codesOf}
+use Rattle.fields.specs.Codes.{codes, codesOf, shape, shape-codes}
 use Rattle.tables.specs.Seek.{seek, row-of}
-use Rattle.image.specs.CodeLists.{lease-codes}
 use Rattle.image.specs.Contents.{answer, refusal}
-use Rattle.image.specs.Layout.{decodeImage, encodeImage, Formed}
-use Rattle.image.specs.LayoutLaws.{one-image}
-use Rattle.image.specs.ImageParts.{leases-at, from-jobs, at-leases}
-use Rattle.image.specs.Opened.{contentsOf, openedOf}
+use Rattle.image.specs.Layout.{leases, decodeImage}
+use Rattle.image.specs.OpenedLaws.{OpenedAs}
 use Rattle.image.specs.SameBytes.{same-lease}
 use Rattle.image.specs.Shapes.{lease, lease-parts}
-use Rattle.image.specs.Stored.{leases-stored, find-row}
+use Rattle.image.specs.Stored.{StoredIn, stored-in, find-row}
+use Rattle.image.specs.TableLaws.{tableIn, behind, count-is, table-here}
 use Rattle.image.specs.Tables.{lease-row}
 use Rattle.image.specs.declared.Contents.{Contents}
-use Rattle.image.specs.declared.Opened.the-variants.{NotAnImage, Image}
 use Rattle.machine.specs.Machine.{validate, validate-found}
 use Rattle.requests.specs.Request.{decodeToken, encodeToken}
 use Rattle.requests.specs.RequestLaws.{token-written}
@@ -38,30 +35,15 @@ use Rattle.requests.specs.declared.SnapshotLeaseToken.{SnapshotLeaseToken as To
 use Rattle.entries.specs.Bytes.{validateBytes}
 
 pub record ReadyToken (x : List ℕ) (c : Contents) (q : List ℕ) (t : TokenAt) : Type 0 where
-  pub state : State
-  pub reads : decodeImage x ≡ some state
-  pub image-is : encodeImage state ≡ x
-  pub formed : Formed state
-  pub opened : c ≡ contentsOf state
+  pub opened : OpenedAs x c
   pub asked : decodeToken q ≡ answer (leaseTokenOf q t)
   pub token-is : q ≡ encodeToken (leaseTokenOf q t)
   pub within : Within lease (lease-parts (leaseTokenOf q t))
 
--- an image that was opened holds a state
-pub opened-state : (o : Option State) (c : Contents) → Image c ≡ openedOf o → (s : State) × (o ≡ some s) × (c ≡ contentsOf s)
-opened-state none c e = let z : _≡_ {A = ℕ} 0 1 = cc in absurd (omega arith)
-opened-state (some s) c e = (s, refl, cc)
-
-pub not-opened : (o : Option State) → NotAnImage ≡ openedOf o → o ≡ none
-not-opened none e = refl
-not-opened (some s) e = let z : _≡_ {A = ℕ} 0 1 = cc in absurd (omega arith)
-
-pub ready-token : (x q : List ℕ) (c : Contents) (t : TokenAt) → Bytes x → Bytes q → Image c ≡ openedOf (decodeImage x) → answer (leaseTokenOf q t) ≡ decodeToken q → ReadyToken x c q t
-ready-token x q c t bx bq o d =
-    let (s, r, e) = opened-state (decodeImage x) c o in
-    let (i, f) = one-image x s bx r in
+pub ready-token : (x q : List ℕ) (c : Contents) (t : TokenAt) → OpenedAs x c → Bytes q → answer (leaseTokenOf q t) ≡ decodeToken q → ReadyToken x c q t
+ready-token x q c t o bq d =
     let (w, v) = token-written q (leaseTokenOf q t) bq (sym d) in
-    record { state = s; reads = r; image-is = i; formed = f; opened = e; asked = sym d; token-is = w; within = v }
+    record { opened = o; asked = sym d; token-is = w; within = v }
 
 pub not-an-image : (x q : List ℕ) → decodeImage x ≡ none → 40 ≡ validateBytes x q
 unfolding validateBytes
@@ -77,7 +59,7 @@ lease-long v = omega arith
 
 module _ {x : List ℕ} {c : Contents} {q : List ℕ} {t : TokenAt} (ready : ReadyToken x c q t) where
   abbrev s : State
-  s = ready .state
+  s = ready .opened .state
 
   abbrev token : SnapshotLeaseToken
   token = leaseTokenOf q t
@@ -88,31 +70,34 @@ module _ {x : List ℕ} {c : Contents} {q : List ℕ} {t : TokenAt} (ready : Rea
 
   validated : validateBytes x q ≡ validate s token
   unfolding validateBytes
-  validated = rw (ready .reads, ready .asked)
+  validated = rw (ready .opened .reads, ready .asked)
 
   pub other-format : (c .«format_version» ≡ 1 → ⊥) → 1 ≡ validateBytes x q
   unfolding validate
   other-format h =
-      let e : s .format-version ≡ c .«format_version» = sym (ap (λ (k : Contents). k .«format_version») (ready .opened)) in
+      let e : s .format-version ≡ c .«format_version» = sym (ready .opened .holds .shows .version) in
       sym (validated ∙ ap (λ (b : Bool). cond b (validate-found s token (lookup (token .lease-id) (s .leases))) 1) (ne-eqb (s .format-version) 1 (λ z. h (sym e ∙ z))))
 
   module _ (h : c .«format_version» ≡ 1) where
     right-format : validateBytes x q ≡ validate-found s token (lookup (token .lease-id) (s .leases))
     unfolding validate
     right-format =
-        let e : s .format-version ≡ c .«format_version» = sym (ap (λ (k : Contents). k .«format_version») (ready .opened)) in
+        let e : s .format-version ≡ c .«format_version» = sym (ready .opened .holds .shows .version) in
         validated ∙ ap (λ (b : Bool). cond b (validate-found s token (lookup (token .lease-id) (s .leases))) 1) (eq-eqb (s .format-version) 1 (e ∙ h))
 
-    module _ (row : List ℕ) (found : row ≡ row-of (seek (codesOf (64 ∷ 64 ∷ 8 ∷ 8 ∷ 64 ∷ 64 ∷ 8 ∷ 9 ∷ 128 ∷ 8 ∷ 64 ∷ 10 ∷ 8 ∷ 8 ∷ 8 ∷ [])) (c .leases .count) (textOf q (t .«lease_id»)) (drop (c .leases .at) x))) where
+    stored : StoredIn leases s
+    stored = stored-in leases s (ready .opened .formed)
+
+    module _ (row : List ℕ) (found : row ≡ row-of (seek (codesOf (shape lease)) (tableIn leases c .count) (textOf q (t .«lease_id»)) (drop (tableIn leases c .at) x))) where
       row-is : row ≡ all lease-row (at (token .lease-id) (s .leases))
       row-is =
           found
-          ∙ (λ i. row-of (seek (lease-codes i) (ready .opened i .leases .count) (token .lease-id) (drop (ready .opened i .leases .at) x)))
-          ∙ find-row (codes lease) lease-row x (leases-at s) (s .leases) (from-jobs s) (ap (drop (leases-at s)) (sym (ready .image-is)) ∙ at-leases s) (leases-stored s (ready .formed) .hopped) (token .lease-id)
+          ∙ (λ i. row-of (seek (shape-codes lease refl i) (count-is (ready .opened .holds) leases i) (token .lease-id) (drop (tableIn leases c .at) x)))
+          ∙ find-row (codes lease) lease-row x (tableIn leases c .at) (s .leases) (behind leases s) (table-here (ready .opened .holds) leases) (stored .hopped) (token .lease-id)
 
       -- the lease that stands under the token's id, if any
       ascends : Ascending (s .leases)
-      ascends = leases-stored s (ready .formed) .ascending
+      ascends = stored .ascending
 
       row-of-one : (v : SnapshotLeaseToken) → at (token .lease-id) (s .leases) ≡ (token .lease-id ⟼ v) ∷ [] → row ≡ enc lease (lease-parts v)
       unfolding all
@@ -136,14 +121,14 @@ module _ {x : List ℕ} {c : Contents} {q : List ℕ} {t : TokenAt} (ready : Rea
             go (present v e l) =
                 right-format ∙ ap (validate-found s token) l
                 ∙ ap (λ (b : Bool). cond b (cond (leb (token .deadline-tick) (s .lease-clock-tick)) 4 0) 3)
-                (sym (same-lease v token (leases-stored s (ready .formed) .found (token .lease-id) v l .1) (ready .within))
+                (sym (same-lease v token (stored .found (token .lease-id) v l .1) (ready .within))
                 ∙ (λ i. sameOf (sym (row-of-one v e) i) (sym (token-bytes) i)) ∙ d)
 
         pub differs : sameOf row q ≡ false → 3 ≡ validateBytes x q
         differs d = sym (stands false d)
 
         clock-is : s .lease-clock-tick ≡ c .scalars .«lease_clock_tick»
-        clock-is = sym (ap (λ (k : Contents). k .scalars .«lease_clock_tick») (ready .opened))
+        clock-is = sym (ap (λ (l : List ℕ). getD l 8 0) (ready .opened .holds .shows .numbers))
 
         pub expired : sameOf row q ≡ true → t .«deadline_tick» ≤ c .scalars .«lease_clock_tick» → 4 ≡ validateBytes x q
         expired d k = sym (stands true d ∙ ap (λ (b : Bool). cond b 4 0) (le-leb (token .deadline-tick) (s .lease-clock-tick) (omega (arith, clock-is))))

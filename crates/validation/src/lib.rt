@@ -3,7 +3,6 @@ ghost use mathlib.Core.Path.{_≡_};
 ghost use Rattle.entries.specs.Bytes.{validateBytes};
 ghost use Rattle.validation.specs.Validation.{ReadyToken};
 use image::Contents;
-use image::Opened;
 use requests::ParsedToken;
 use requests::SnapshotLeaseToken;
 
@@ -15,7 +14,8 @@ fn validate_opened(image: &[u8], c: Contents, token: &[u8], t: SnapshotLeaseToke
     if c.format_version != 1 {
         return 1;
     }
-    let leases = c.leases;
+    let tables = c.tables;
+    let leases = tables[image::LEASES];
     let a = t.lease_id;
     let id = parts::clip(token, a.at, a.len);
     let active = tables::find(&image::LEASE, image, leases.at, leases.count, id);
@@ -35,9 +35,10 @@ pub fn validate_active_snapshot_lease(image: &[u8], token: &[u8]) -> u32
     ensures { λ r. ⌜ r ≡ validateBytes (now (image .entry)) (now (token .entry)) ⌝ }
 {
     let o = image::open(image);
-    let Opened::Image(c) = o else {
+    if !o.found {
         return 40;
-    };
+    }
+    let c = o.contents;
     let p = requests::parse_token(token);
     match p {
         ParsedToken::Fault(e) => e,

@@ -8,10 +8,10 @@ use Rattle.clock.proofs.count_rows.Statement.{statement}
 use Rattle.clock.proofs.count_rows.Tie as tie
 
 abbrev Inv-loop : tie.InvT-loop
-Inv-loop s at n tick floor before i₀ p₀ t₀ t11 i p t = Counted tick floor s at n i p t
+Inv-loop s at n tick floor i₀ p₀ t₀ t10 t11 i p t = Counted tick floor s at n i p t
 
 abbrev μ-loop : tie.MeasureT-loop
-μ-loop s at n tick floor before i₀ p₀ t₀ t11 i p t = n - i
+μ-loop s at n tick floor i₀ p₀ t₀ t10 t11 i p t = n - i
 
 within-requires : tie.Need-within-requires Inv-loop μ-loop
 within-requires c κs = search needs
@@ -27,6 +27,9 @@ skip-record-requires c κs = search needs
 
 is-due-requires : tie.Need-is-due-requires Inv-loop μ-loop
 is-due-requires c κs = search needs
+
+array-share-prefix-number-after : tie.Need-array-share-prefix-number-after Inv-loop μ-loop
+array-share-prefix-number-after c = search needs
 
 slice-aggregate-number-after : tie.Need-slice-aggregate-number-after Inv-loop μ-loop
 slice-aggregate-number-after c = search needs
@@ -63,6 +66,7 @@ count-rows-spec =
     slice-aggregate-skip-record
     skip-record-requires
     is-due-requires
+    array-share-prefix-number-after
     slice-aggregate-number-after
     number-after-requires
     less-requires

@@ -1,15 +1,19 @@
 use mathlib.Core.Path.{refl}
 use mathlib.Core.List.{[], _∷_}
 use lib.ListN.{length}
+use Rattle.image.specs.TableLaws.{tablesAt}
 use Rattle.machine.specs.Actions.{Applied}
 use Rattle.machine.specs.Next.{collection-abandoned}
 use Rattle.requests.specs.Meaning.{textOf}
 use Rattle.next.specs.Call.{refused, done}
-use Rattle.collection.specs.Abandon.{no-row, a-row, job-missing, job-differs, other-owner, abandoned, abandoned-shows, abandoned-small, abandoned-body}
 use Rattle.next.specs.declared.PublicationOutcome.{PublicationOutcome}
+use Rattle.collection.specs.Abandon.{abandon-refused, abandoned, abandoned-shows, abandoned-small, abandoned-body}
 use borrow.Author.Needs.{needs}
 use Rattle.collection.proofs.abandon_collection.Statement.{statement}
 use Rattle.collection.proofs.abandon_collection.Tie as tie
+
+array-copy-out-jobs : tie.Need-array-copy-out-jobs
+array-copy-out-jobs c = search needs
 
 clip-requires : tie.Need-clip-requires
 clip-requires c κs = search needs
@@ -23,35 +27,40 @@ locate-requires c κs = search needs
 row-requires : tie.Need-row-requires
 row-requires c κs = search needs
 
+clip-requires-2 : tie.Need-clip-requires-2
+clip-requires-2 c κs = search needs
+
+abandon-refusal-requires : tie.Need-abandon-refusal-requires
+abandon-refusal-requires c κs = search needs
+
 refuse-requires : tie.Need-refuse-requires
 refuse-requires c κs = search needs
 
 returns : tie.Need-returns
-returns c = refused (c .before .before .before .before .before .before .before .before .before .before .before .before .before .before .pre) 30 (job-missing (c .before .before .before .before .before .before .before .before .before .before .before .before .before .before .pre) _ ((c .before .before .before .before .before .clip) .ensures) _ ((c .before .before .before .locate) .ensures) (no-row (c .before .before .before .before .before .before .before .before .before .before .before .before .before .before .pre) _ ((c .before .before .before .before .before .clip) .ensures) _ ((c .before .before .before .locate) .ensures) ((c .before .before .row) .ensures) ((c .before .if1) .taken))) ((c .refuse) .ensures)
-
-clip-requires-2 : tie.Need-clip-requires-2
-clip-requires-2 c κs = search needs
-
-same-requires : tie.Need-same-requires
-same-requires c κs = search needs
-
-refuse-requires-2 : tie.Need-refuse-requires-2
-refuse-requires-2 c κs = search needs
-
-returns-2 : tie.Need-returns-2
-returns-2 c = refused (c .before .before .before .before .before .before .before .before .before .before .before .before .before .before .before .before .before .pre) 31 (job-differs (c .before .before .before .before .before .before .before .before .before .before .before .before .before .before .before .before .before .pre) _ ((c .before .before .before .before .before .before .before .before .clip) .ensures) _ ((c .before .before .before .before .before .before .locate) .ensures) (a-row (c .before .before .before .before .before .before .before .before .before .before .before .before .before .before .before .before .before .pre) _ ((c .before .before .before .before .before .before .before .before .clip) .ensures) _ ((c .before .before .before .before .before .before .locate) .ensures) ((c .before .before .before .before .before .row) .ensures) ((c .before .before .before .before .if1) .left)) _ _ ((c .before .before .before .before .before .row) .ensures) ((c .before .before .before .clip2) .ensures) _ ((c .before .before .same) .ensures) ((c .before .if2) .taken)) ((c .refuse2) .ensures)
-
-refuse-requires-3 : tie.Need-refuse-requires-3
-refuse-requires-3 c κs = search needs
-
-returns-3 : tie.Need-returns-3
-returns-3 c = refused (c .before .before .before .before .before .before .before .before .before .before .before .before .before .before .before .before .before .before .before .before .pre) 6 (other-owner (c .before .before .before .before .before .before .before .before .before .before .before .before .before .before .before .before .before .before .before .before .pre) _ ((c .before .before .before .before .before .before .before .before .before .before .before .clip) .ensures) _ ((c .before .before .before .before .before .before .before .before .before .locate) .ensures) (a-row (c .before .before .before .before .before .before .before .before .before .before .before .before .before .before .before .before .before .before .before .before .pre) _ ((c .before .before .before .before .before .before .before .before .before .before .before .clip) .ensures) _ ((c .before .before .before .before .before .before .before .before .before .locate) .ensures) ((c .before .before .before .before .before .before .before .before .row) .ensures) ((c .before .before .before .before .before .before .before .if1) .left)) _ _ ((c .before .before .before .before .before .before .before .before .row) .ensures) ((c .before .before .before .before .before .before .clip2) .ensures) _ ((c .before .before .before .before .before .same) .ensures) ((c .before .before .before .before .if2) .left) ((c .before .if3) .taken)) ((c .refuse3) .ensures)
+returns c =
+    let at-if1 = c .before in
+    let at-abandon-refusal = at-if1 .before in
+    let at-clip2 = at-abandon-refusal .before in
+    let at-row = at-clip2 .before in
+    let at-locate = at-row .before in
+    let at-clip = at-locate .before .before in
+    let start = at-clip .before .before .before .before .before .before .before .before in
+    let r = start .pre in
+    refused r (at-abandon-refusal .abandon-refusal .result)
+    (abandon-refused r _ (at-clip .clip .ensures) _ (at-locate .locate .ensures) _ _ (at-row .row .ensures) (at-clip2 .clip2 .ensures) _ (at-abandon-refusal .abandon-refusal .ensures) (at-if1 .if1 .taken))
+    (c .refuse .ensures)
 
 after-remove-requires : tie.Need-after-remove-requires
 after-remove-requires c κs = search needs
 
-contents-after-requires : tie.Need-contents-after-requires
-contents-after-requires c κs = search needs
+raised-requires : tie.Need-raised-requires
+raised-requires c κs = search needs
+
+element-set-from-left : tie.Need-element-set-from-left
+element-set-from-left c = search needs
+
+array-copy-out-first : tie.Need-array-copy-out-first
+array-copy-out-first c = search needs
 
 less-requires : tie.Need-less-requires
 less-requires c κs = search needs
@@ -60,7 +69,13 @@ slice-aggregate-emit : tie.Need-slice-aggregate-emit
 slice-aggregate-emit c = search needs
 
 emit-requires : tie.Need-emit-requires
-emit-requires c κs = (abandoned-small (c .before .before .before .before .before .before .before .before .before .before .before .before .before .before .before .before .before .before .before .before .before .before .before .before .before .pre) _ ((c .before .before .before .before .before .before .before .before .before .before .before .before .before .before .before .before .clip) .ensures) _ ((c .before .before .before .before .before .before .before .before .before .before .before .before .before .before .locate) .ensures) _ ((c .before .before .before .before .before .after-remove) .ensures) _ ((c .before .before .before .before .contents-after) .ensures), tt)
+emit-requires c κs =
+    let at-raised = c .before .before .before .before .before in
+    let at-after-remove = at-raised .before in
+    let at-locate = at-after-remove .before .before .before .before .before in
+    let at-clip = at-locate .before .before in
+    let start = at-clip .before .before .before .before .before .before .before .before in
+    (abandoned-small (start .pre) _ (at-clip .clip .ensures) _ (at-locate .locate .ensures) _ (at-after-remove .after-remove .ensures) _ (at-raised .raised .ensures), tt)
 
 same-length : tie.Need-same-length
 same-length c = search needs
@@ -68,35 +83,49 @@ same-length c = search needs
 same-length-2 : tie.Need-same-length-2
 same-length-2 c = search needs
 
-returns-4 : tie.Need-returns-4
-returns-4 c = done (c .before .before .before .before .before .before .before .before .before .before .before .before .before .before .before .before .before .before .before .before .before .before .before .before .before .before .before .before .before .before .pre) (collection-abandoned ((c .before .before .before .before .before .before .before .before .before .before .before .before .before .before .before .before .before .before .before .before .before .before .before .before .before .before .before .before .before .before .pre) .state) (textOf ((c .before .before .before .before .before .before .before .before .before .before .before .before .before .before .before .before .before .before .before .before .before .before .before .before .before .before .before .before .before .before .args) .request .now) ((c .before .before .before .before .before .before .before .before .before .before .before .before .before .before .before .before .before .before .before .before .before .before .before .before .before .before .before .before .before .before .args) .a .«job_id»))) Applied 0 ((c .before .before .before .before .before .before .before .before .before .contents-after) .result) (0 ∷ (c .before .before .before .before .before .before .before .before .before .before .before .before .before .before .before .before .before .before .before .before .before .before .before .before .before .before .before .before .before .before .args) .c .intents .at ∷ (c .before .before .before .before .before .before .before .before .less) .result ∷ 0 ∷ (c .before .before .before .before .before .before .before .before .before .before .before .before .before .before .before .before .before .before .before .locate) .result .end ∷ length ((c .before .before .before .before .before .before .before .before .before .before .before .before .before .before .before .before .before .before .before .before .before .before .before .before .before .before .before .before .before .before .args) .image .now) ∷ []) ((c .before .before .before .before .before .before .before .before .before .before .before .before .before .before .before .before .before .before .before .before .before .before .before .before .before .before .before .before .before .before .args) .image .now) PublicationOutcome.Applied
-    (abandoned (c .before .before .before .before .before .before .before .before .before .before .before .before .before .before .before .before .before .before .before .before .before .before .before .before .before .before .before .before .before .before .pre) _ ((c .before .before .before .before .before .before .before .before .before .before .before .before .before .before .before .before .before .before .before .before .before .clip) .ensures) _ ((c .before .before .before .before .before .before .before .before .before .before .before .before .before .before .before .before .before .before .before .locate) .ensures) (a-row (c .before .before .before .before .before .before .before .before .before .before .before .before .before .before .before .before .before .before .before .before .before .before .before .before .before .before .before .before .before .before .pre) _ ((c .before .before .before .before .before .before .before .before .before .before .before .before .before .before .before .before .before .before .before .before .before .clip) .ensures) _ ((c .before .before .before .before .before .before .before .before .before .before .before .before .before .before .before .before .before .before .before .locate) .ensures) ((c .before .before .before .before .before .before .before .before .before .before .before .before .before .before .before .before .before .before .row) .ensures) ((c .before .before .before .before .before .before .before .before .before .before .before .before .before .before .before .before .before .if1) .left)) _ _ ((c .before .before .before .before .before .before .before .before .before .before .before .before .before .before .before .before .before .before .row) .ensures) ((c .before .before .before .before .before .before .before .before .before .before .before .before .before .before .before .before .clip2) .ensures) _ ((c .before .before .before .before .before .before .before .before .before .before .before .before .before .before .before .same) .ensures) ((c .before .before .before .before .before .before .before .before .before .before .before .before .before .before .if2) .left) ((c .before .before .before .before .before .before .before .before .before .before .before .if3) .left))
-    (abandoned-shows (c .before .before .before .before .before .before .before .before .before .before .before .before .before .before .before .before .before .before .before .before .before .before .before .before .before .before .before .before .before .before .pre) _ ((c .before .before .before .before .before .before .before .before .before .before .before .before .before .before .before .before .before .before .before .before .before .clip) .ensures) _ ((c .before .before .before .before .before .before .before .before .before .before .before .before .before .before .before .before .before .before .before .locate) .ensures) _ ((c .before .before .before .before .before .before .before .before .before .before .after-remove) .ensures) _ ((c .before .before .before .before .before .before .before .before .before .contents-after) .ensures))
-    (abandoned-body (c .before .before .before .before .before .before .before .before .before .before .before .before .before .before .before .before .before .before .before .before .before .before .before .before .before .before .before .before .before .before .pre) _ ((c .before .before .before .before .before .before .before .before .before .before .before .before .before .before .before .before .before .before .before .before .before .clip) .ensures) _ ((c .before .before .before .before .before .before .before .before .before .before .before .before .before .before .before .before .before .before .before .locate) .ensures) _ ((c .before .before .before .before .before .before .before .before .less) .ensures))
+returns-2 : tie.Need-returns-2
+returns-2 c =
+    let at-emit = c .before .before .before .before in
+    let at-less = at-emit .before .before .before .before in
+    let at-raised = at-less .before .before in
+    let at-after-remove = at-raised .before in
+    let at-if1 = at-after-remove .before in
+    let at-abandon-refusal = at-if1 .before in
+    let at-clip2 = at-abandon-refusal .before in
+    let at-row = at-clip2 .before in
+    let at-locate = at-row .before in
+    let at-clip = at-locate .before .before in
+    let start = at-clip .before .before .before .before .before .before .before .before in
+    let r = start .pre in
+    let a = start .args in
+    done r (collection-abandoned (r .state) (textOf (a .request .now) (a .a .«job_id»))) Applied (a .image .now) _
+    (0 ∷ tablesAt (a .c) ∷ at-less .less .result ∷ 0 ∷ at-locate .locate .result .end ∷ length (a .image .now) ∷ []) (a .image .now) PublicationOutcome.Applied
+    (abandoned r _ (at-clip .clip .ensures) _ (at-locate .locate .ensures) _ _ (at-row .row .ensures) (at-clip2 .clip2 .ensures) _ (at-abandon-refusal .abandon-refusal .ensures) (at-if1 .if1 .left))
+    (abandoned-shows r _ (at-clip .clip .ensures) _ (at-locate .locate .ensures) _ (at-after-remove .after-remove .ensures) _ (at-raised .raised .ensures))
+    (abandoned-body r _ (at-clip .clip .ensures) _ (at-locate .locate .ensures) _ (at-less .less .ensures))
     refl
-    ((c .before .before .before .before .emit) .ensures)
+    (at-emit .emit .ensures)
 
 pub abandon-collection-spec : {M : Type 1} → statement M
 abandon-collection-spec =
     tie.close
     (tie.spec
+    array-copy-out-jobs
     clip-requires
     slice-aggregate-locate
     locate-requires
     row-requires
+    clip-requires-2
+    abandon-refusal-requires
     refuse-requires
     returns
-    clip-requires-2
-    same-requires
-    refuse-requires-2
-    returns-2
-    refuse-requires-3
-    returns-3
     after-remove-requires
-    contents-after-requires
+    raised-requires
+    element-set-from-left
+    array-copy-out-first
     less-requires
     slice-aggregate-emit
     emit-requires
     same-length
     same-length-2
-    returns-4)
+    returns-2)

@@ -1,25 +1,26 @@
 use mathlib.Core.Path.{refl}
 use mathlib.Core.List.{[], _∷_}
 use lib.ListN.{length}
+use Rattle.image.specs.TableLaws.{tablesAt}
 use Rattle.machine.specs.Actions.{Applied}
 use Rattle.machine.specs.Next.{root-configured}
 use Rattle.requests.specs.Meaning.{textOf}
 use Rattle.next.specs.Call.{refused, done}
 use Rattle.next.specs.Kept.{whole-tables}
-use Rattle.collection.specs.Configure.{no-root, unknown-root, other-root, jobs-stand, configured, configured-shows, configured-small}
 use Rattle.next.specs.declared.PublicationOutcome.{PublicationOutcome}
+use Rattle.collection.specs.Configure.{configure-refused, configured, configured-shows, configured-small}
 use borrow.Author.Needs.{needs}
 use Rattle.collection.proofs.configure_collection_root.Statement.{statement}
 use Rattle.collection.proofs.configure_collection_root.Tie as tie
 
+array-copy-out-roots : tie.Need-array-copy-out-roots
+array-copy-out-roots c = search needs
+
+array-copy-out-jobs : tie.Need-array-copy-out-jobs
+array-copy-out-jobs c = search needs
+
 clip-requires : tie.Need-clip-requires
 clip-requires c κs = search needs
-
-refuse-requires : tie.Need-refuse-requires
-refuse-requires c κs = search needs
-
-returns : tie.Need-returns
-returns c = refused (c .before .before .before .before .before .before .before .before .before .before .before .pre) 2 (no-root (c .before .before .before .before .before .before .before .before .before .before .before .pre) _ ((c .before .before .clip) .ensures) ((c .before .if1) .taken)) ((c .refuse) .ensures)
 
 slice-aggregate-located : tie.Need-slice-aggregate-located
 slice-aggregate-located c = search needs
@@ -27,38 +28,51 @@ slice-aggregate-located c = search needs
 located-requires : tie.Need-located-requires
 located-requires c κs = search needs
 
-refuse-requires-2 : tie.Need-refuse-requires-2
-refuse-requires-2 c κs = search needs
-
-returns-2 : tie.Need-returns-2
-returns-2 c = refused (c .before .before .before .before .before .before .before .before .before .before .before .before .before .before .pre) 2 (unknown-root (c .before .before .before .before .before .before .before .before .before .before .before .before .before .before .pre) _ ((c .before .before .before .before .before .clip) .ensures) ((c .before .before .before .before .if1) .left) _ ((c .before .before .located) .ensures) ((c .before .if2) .taken)) ((c .refuse2) .ensures)
-
 same-maybe-requires : tie.Need-same-maybe-requires
 same-maybe-requires c κs = search needs
 
-refuse-requires-3 : tie.Need-refuse-requires-3
-refuse-requires-3 c κs = search needs
+configure-refusal-requires : tie.Need-configure-refusal-requires
+configure-refusal-requires c κs = search needs
 
-returns-3 : tie.Need-returns-3
-returns-3 c = refused (c .before .before .before .before .before .before .before .before .before .before .before .before .before .before .before .before .pre) 36 (other-root (c .before .before .before .before .before .before .before .before .before .before .before .before .before .before .before .before .pre) _ ((c .before .before .before .before .before .before .before .clip) .ensures) ((c .before .before .before .before .before .before .if1) .left) _ ((c .before .before .before .before .located) .ensures) ((c .before .before .before .if2) .left) _ ((c .before .before .same-maybe) .ensures) ((c .before .if3) .taken)) ((c .refuse3) .ensures)
+refuse-requires : tie.Need-refuse-requires
+refuse-requires c κs = search needs
 
-refuse-requires-4 : tie.Need-refuse-requires-4
-refuse-requires-4 c κs = search needs
-
-returns-4 : tie.Need-returns-4
-returns-4 c = refused (c .before .before .before .before .before .before .before .before .before .before .before .before .before .before .before .before .before .before .pre) 32 (jobs-stand (c .before .before .before .before .before .before .before .before .before .before .before .before .before .before .before .before .before .before .pre) _ ((c .before .before .before .before .before .before .before .before .before .clip) .ensures) ((c .before .before .before .before .before .before .before .before .if1) .left) _ ((c .before .before .before .before .before .before .located) .ensures) ((c .before .before .before .before .before .if2) .left) _ ((c .before .before .before .before .same-maybe) .ensures) ((c .before .before .before .if3) .left) ((c .before .if4) .taken)) ((c .refuse4) .ensures)
+returns : tie.Need-returns
+returns c =
+    let at-if1 = c .before in
+    let at-configure-refusal = at-if1 .before in
+    let at-same-maybe = at-configure-refusal .before in
+    let at-located = at-same-maybe .before in
+    let at-clip = at-located .before .before in
+    let start = at-clip .before .before .before .before .before .before .before .before .before .before in
+    let r = start .pre in
+    refused r (at-configure-refusal .configure-refusal .result)
+    (configure-refused r _ (at-clip .clip .ensures) _ _ (at-located .located .ensures) (at-same-maybe .same-maybe .ensures) _ (at-configure-refusal .configure-refusal .ensures) (at-if1 .if1 .taken))
+    (c .refuse .ensures)
 
 less-requires : tie.Need-less-requires
 less-requires c κs = search needs
 
-contents-after-requires : tie.Need-contents-after-requires
-contents-after-requires c κs = search needs
+with-root-requires : tie.Need-with-root-requires
+with-root-requires c κs = search needs
+
+raised-requires : tie.Need-raised-requires
+raised-requires c κs = search needs
+
+array-copy-out-first : tie.Need-array-copy-out-first
+array-copy-out-first c = search needs
 
 slice-aggregate-emit : tie.Need-slice-aggregate-emit
 slice-aggregate-emit c = search needs
 
 emit-requires : tie.Need-emit-requires
-emit-requires c κs = (configured-small (c .before .before .before .before .before .before .before .before .before .before .before .before .before .before .before .before .before .before .before .before .before .before .pre) _ ((c .before .before .before .before .before .before .before .before .before .before .before .before .before .clip) .ensures) _ ((c .before .before .before .before .less) .ensures) _ ((c .before .before .before .contents-after) .ensures), tt)
+emit-requires c κs =
+    let at-raised = c .before .before .before .before in
+    let at-with-root = at-raised .before in
+    let at-less = at-with-root .before in
+    let at-clip = at-less .before .before .before .before .before .before in
+    let start = at-clip .before .before .before .before .before .before .before .before .before .before in
+    (configured-small (start .pre) _ (at-clip .clip .ensures) _ (at-less .less .ensures) _ (at-with-root .with-root .ensures) _ (at-raised .raised .ensures), tt)
 
 same-length : tie.Need-same-length
 same-length c = search needs
@@ -66,34 +80,47 @@ same-length c = search needs
 same-length-2 : tie.Need-same-length-2
 same-length-2 c = search needs
 
-returns-5 : tie.Need-returns-5
-returns-5 c = done (c .before .before .before .before .before .before .before .before .before .before .before .before .before .before .before .before .before .before .before .before .before .before .before .before .before .before .before .pre) (root-configured ((c .before .before .before .before .before .before .before .before .before .before .before .before .before .before .before .before .before .before .before .before .before .before .before .before .before .before .before .pre) .state) (textOf ((c .before .before .before .before .before .before .before .before .before .before .before .before .before .before .before .before .before .before .before .before .before .before .before .before .before .before .before .args) .request .now) ((c .before .before .before .before .before .before .before .before .before .before .before .before .before .before .before .before .before .before .before .before .before .before .before .before .before .before .before .args) .a .«destination_root»))) Applied 1 ((c .before .before .before .before .before .before .before .before .contents-after) .result) (0 ∷ (c .before .before .before .before .before .before .before .before .before .before .before .before .before .before .before .before .before .before .before .before .before .before .before .before .before .before .before .args) .c .intents .at ∷ length ((c .before .before .before .before .before .before .before .before .before .before .before .before .before .before .before .before .before .before .before .before .before .before .before .before .before .before .before .args) .image .now) ∷ []) ((c .before .before .before .before .before .before .before .before .before .before .before .before .before .before .before .before .before .before .before .before .before .before .before .before .before .before .before .args) .image .now) PublicationOutcome.Applied
-    (configured (c .before .before .before .before .before .before .before .before .before .before .before .before .before .before .before .before .before .before .before .before .before .before .before .before .before .before .before .pre) _ ((c .before .before .before .before .before .before .before .before .before .before .before .before .before .before .before .before .before .before .clip) .ensures) ((c .before .before .before .before .before .before .before .before .before .before .before .before .before .before .before .before .before .if1) .left) _ ((c .before .before .before .before .before .before .before .before .before .before .before .before .before .before .before .located) .ensures) ((c .before .before .before .before .before .before .before .before .before .before .before .before .before .before .if2) .left) _ ((c .before .before .before .before .before .before .before .before .before .before .before .before .before .same-maybe) .ensures) ((c .before .before .before .before .before .before .before .before .before .before .before .before .if3) .left) ((c .before .before .before .before .before .before .before .before .before .before .if4) .left))
-    (configured-shows (c .before .before .before .before .before .before .before .before .before .before .before .before .before .before .before .before .before .before .before .before .before .before .before .before .before .before .before .pre) _ ((c .before .before .before .before .before .before .before .before .before .before .before .before .before .before .before .before .before .before .clip) .ensures) _ ((c .before .before .before .before .before .before .before .before .before .less) .ensures) _ ((c .before .before .before .before .before .before .before .before .contents-after) .ensures))
-    (whole-tables ((c .before .before .before .before .before .before .before .before .before .before .before .before .before .before .before .before .before .before .before .before .before .before .before .before .before .before .before .pre) .state) ((c .before .before .before .before .before .before .before .before .before .before .before .before .before .before .before .before .before .before .before .before .before .before .before .before .before .before .before .args) .image .now) ((c .before .before .before .before .before .before .before .before .before .before .before .before .before .before .before .before .before .before .before .before .before .before .before .before .before .before .before .args) .request .now) ((c .before .before .before .before .before .before .before .before .before .before .before .before .before .before .before .before .before .before .before .before .before .before .before .before .before .before .before .pre) .image-is) ((c .before .before .before .before .before .before .before .before .before .before .before .before .before .before .before .before .before .before .before .before .before .before .before .before .before .before .before .args) .c) ((c .before .before .before .before .before .before .before .before .before .before .before .before .before .before .before .before .before .before .before .before .before .before .before .before .before .before .before .pre) .opened))
+returns-2 : tie.Need-returns-2
+returns-2 c =
+    let at-emit = c .before .before .before .before in
+    let at-raised = at-emit .before .before .before .before .before in
+    let at-with-root = at-raised .before in
+    let at-less = at-with-root .before in
+    let at-if1 = at-less .before in
+    let at-configure-refusal = at-if1 .before in
+    let at-same-maybe = at-configure-refusal .before in
+    let at-located = at-same-maybe .before in
+    let at-clip = at-located .before .before in
+    let start = at-clip .before .before .before .before .before .before .before .before .before .before in
+    let r = start .pre in
+    let a = start .args in
+    done r (root-configured (r .state) (textOf (a .request .now) (a .a .«destination_root»))) Applied (a .request .now) (at-raised .raised .result)
+    (0 ∷ tablesAt (a .c) ∷ length (a .image .now) ∷ []) (a .image .now) PublicationOutcome.Applied
+    (configured r _ (at-clip .clip .ensures) _ _ (at-located .located .ensures) (at-same-maybe .same-maybe .ensures) _ (at-configure-refusal .configure-refusal .ensures) (at-if1 .if1 .left))
+    (configured-shows r _ (at-clip .clip .ensures) _ (at-less .less .ensures) _ (at-with-root .with-root .ensures) _ (at-raised .raised .ensures))
+    (whole-tables (r .holds) (a .request .now))
     refl
-    ((c .before .before .before .before .emit) .ensures)
+    (at-emit .emit .ensures)
 
 pub configure-collection-root-spec : {M : Type 1} → statement M
 configure-collection-root-spec =
     tie.close
     (tie.spec
+    array-copy-out-roots
+    array-copy-out-jobs
     clip-requires
-    refuse-requires
-    returns
     slice-aggregate-located
     located-requires
-    refuse-requires-2
-    returns-2
     same-maybe-requires
-    refuse-requires-3
-    returns-3
-    refuse-requires-4
-    returns-4
+    configure-refusal-requires
+    refuse-requires
+    returns
     less-requires
-    contents-after-requires
+    with-root-requires
+    raised-requires
+    array-copy-out-first
     slice-aggregate-emit
     emit-requires
     same-length
     same-length-2
-    returns-5)
+    returns-2)

@@ -4,6 +4,9 @@ use borrow.Author.Needs.{needs}
 use Rattle.collection_jobs.proofs.conflicts.Statement.{statement}
 use Rattle.collection_jobs.proofs.conflicts.Tie as tie
 
+array-share-prefix-skip-record : tie.Need-array-share-prefix-skip-record
+array-share-prefix-skip-record c = search needs
+
 slice-aggregate-skip-record : tie.Need-slice-aggregate-skip-record
 slice-aggregate-skip-record c = search needs
 
@@ -12,6 +15,9 @@ skip-record-requires c κs = search needs
 
 text-at-requires : tie.Need-text-at-requires
 text-at-requires c κs = search needs
+
+array-share-prefix-skip-record-2 : tie.Need-array-share-prefix-skip-record-2
+array-share-prefix-skip-record-2 c = search needs
 
 slice-aggregate-skip-record-2 : tie.Need-slice-aggregate-skip-record-2
 slice-aggregate-skip-record-2 c = search needs
@@ -50,9 +56,11 @@ pub conflicts-spec : {M : Type 1} → statement M
 conflicts-spec =
     tie.close
     (tie.spec
+    array-share-prefix-skip-record
     slice-aggregate-skip-record
     skip-record-requires
     text-at-requires
+    array-share-prefix-skip-record-2
     slice-aggregate-skip-record-2
     skip-record-requires-2
     text-at-requires-2

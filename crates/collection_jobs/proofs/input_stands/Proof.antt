@@ -4,12 +4,6 @@ use borrow.Author.Needs.{needs}
 use Rattle.collection_jobs.proofs.input_stands.Statement.{statement}
 use Rattle.collection_jobs.proofs.input_stands.Tie as tie
 
-slice-aggregate-find : tie.Need-slice-aggregate-find
-slice-aggregate-find c = search needs
-
-find-requires : tie.Need-find-requires
-find-requires c κs = search needs
-
 slice-aggregate-skip-record : tie.Need-slice-aggregate-skip-record
 slice-aggregate-skip-record c = search needs
 
@@ -29,14 +23,18 @@ row-holds-requires : tie.Need-row-holds-requires
 row-holds-requires c κs = search needs
 
 returns : tie.Need-returns
-returns c = (c .row-holds) .ensures ∙ input-is ((c .before .before .before .before .before .before .before .before .before .before .args) .image .now) ((c .before .before .before .before .before .before .before .before .before .before .args) .roots) ((c .before .before .before .before .before .before .before .before .before .before .args) .root .now) ((c .before .before .before .before .before .before .before .before .before .before .args) .request .now) ((c .before .before .before .before .before .before .before .before .before .before .args) .at) _ ((c .before .before .before .before .before .find) .ensures) _ ((c .before .before .before .skip-record) .ensures) _ ((c .before .before .less) .ensures) _ ((c .before .clip) .ensures)
+returns c =
+    let at-clip = c .before in
+    let at-less = at-clip .before in
+    let at-skip-record = at-less .before in
+    let start = at-skip-record .before .before .before .before .before in
+    let a = start .args in
+    c .row-holds .ensures ∙ input-is (a .row .now) (a .root .now) (a .request .now) (a .at) _ (at-skip-record .skip-record .ensures) _ (at-less .less .ensures) _ (at-clip .clip .ensures)
 
 pub input-stands-spec : {M : Type 1} → statement M
 input-stands-spec =
     tie.close
     (tie.spec
-    slice-aggregate-find
-    find-requires
     slice-aggregate-skip-record
     skip-record-requires
     less-requires

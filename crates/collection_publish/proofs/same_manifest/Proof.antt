@@ -1,5 +1,5 @@
 use mathlib.Core.Path.{_∙_}
-use Rattle.collection_publish.specs.Refusals.{same-manifest-is}
+use Rattle.collection_publish.specs.Tests.{same-manifest-is}
 use borrow.Author.Needs.{needs}
 use Rattle.collection_publish.proofs.same_manifest.Statement.{statement}
 use Rattle.collection_publish.proofs.same_manifest.Tie as tie

@@ -1,4 +1,4 @@
-use borrow.Author.Tests.{not-true, not-false}
+use borrow.Author.Tests.{not-false, not-true}
 use mathlib.Core.Path.{sym, _∙_}
 use Rattle.deletion.proofs.Steps.{plan-told, match-exact, match-strict, match-plan, match-key}
 use borrow.Author.Needs.{needs}
@@ -13,6 +13,9 @@ returns c = match-exact ((c .before .before .before .before .before .before .arg
 
 returns-2 : tie.Need-returns-2
 returns-2 c = match-strict ((c .before .before .before .before .before .before .before .args) .by-plan-key-only) ((c .before .before .before .before .before .before .before .args) .row .now) ((c .before .before .before .before .before .before .before .args) .shown .now) ((c .before .before .before .before .before .before .before .args) .plan .now) ((c .before .before .before .before .before .before .before .args) .key .now) (sym ((c .before .before .same) .ensures) ∙ (c .before .if1) .left) (not-true _ ((c .if2) .taken))
+
+array-share-prefix-skip-record : tie.Need-array-share-prefix-skip-record
+array-share-prefix-skip-record c = search needs
 
 slice-aggregate-skip-record : tie.Need-slice-aggregate-skip-record
 slice-aggregate-skip-record c = search needs
@@ -45,6 +48,7 @@ matches-spec =
     same-requires
     returns
     returns-2
+    array-share-prefix-skip-record
     slice-aggregate-skip-record
     skip-record-requires
     text-at-requires

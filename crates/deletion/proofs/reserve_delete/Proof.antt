@@ -3,23 +3,22 @@ use native.Mathlib.Omega.{arith}
 use mathlib.Core.List.{[], _∷_}
 use mathlib.Core.Path.{refl}
 use lib.ListN.{length}
+use Rattle.image.specs.TableLaws.{tablesAt}
 use Rattle.machine.specs.Actions.{DeleteReserved}
 use Rattle.machine.specs.Next.{reserved}
 use Rattle.next.specs.Call.{refused, done}
-use Rattle.deletion.specs.ReserveCall.{permit-told, permit-made, refusal, exists, taken, request-short, plan-short, table-small, permit-fits, body-more, shows-more, small-more}
+use Rattle.next.specs.Kept.{six-tables}
 use Rattle.next.specs.declared.PublicationOutcome.{PublicationOutcome}
+use Rattle.deletion.specs.ReserveCall.{permit-made, permit-told, reserve-refused, reserve-taken, plan-short, reserve-room, permit-fits, reserve-tables, reserve-shows, reserve-small}
 use borrow.Author.Needs.{needs}
 use Rattle.deletion.proofs.reserve_delete.Statement.{statement}
 use Rattle.deletion.proofs.reserve_delete.Tie as tie
 
-reserve-refusal-requires : tie.Need-reserve-refusal-requires
-reserve-refusal-requires c κs = search needs
+array-copy-out-intents : tie.Need-array-copy-out-intents
+array-copy-out-intents c = search needs
 
-refuse-requires : tie.Need-refuse-requires
-refuse-requires c κs = search needs
-
-returns : tie.Need-returns
-returns c = refused (c .before .before .before .before .before .before .before .pre) ((c .before .before .reserve-refusal) .result) (refusal (c .before .before .before .before .before .before .before .pre) ((c .before .before .reserve-refusal) .result) ((c .before .before .reserve-refusal) .ensures) ((c .before .if1) .taken)) ((c .refuse) .ensures)
+array-copy-out-reservations : tie.Need-array-copy-out-reservations
+array-copy-out-reservations c = search needs
 
 clip-requires : tie.Need-clip-requires
 clip-requires c κs = search needs
@@ -30,11 +29,16 @@ slice-aggregate-locate c = search needs
 locate-requires : tie.Need-locate-requires
 locate-requires c κs = search needs
 
-refuse-requires-2 : tie.Need-refuse-requires-2
-refuse-requires-2 c κs = search needs
+reserve-refusal-requires : tie.Need-reserve-refusal-requires
+reserve-refusal-requires c κs = six-tables ((c .before .before .before .before .before .before .before .before .before .before .before .pre) .holds)
 
-returns-2 : tie.Need-returns-2
-returns-2 c = refused (c .before .before .before .before .before .before .before .before .before .before .before .before .before .before .pre) 12 (exists (c .before .before .before .before .before .before .before .before .before .before .before .before .before .before .pre) ((c .before .before .before .before .before .before .clip) .result .now) ((c .before .before .before .locate) .result) ((c .before .before .before .before .before .before .clip) .ensures) ((c .before .before .before .locate) .ensures) ((c .before .before .before .before .before .before .before .before .before .reserve-refusal) .result) ((c .before .before .before .before .before .before .before .before .before .reserve-refusal) .ensures) ((c .before .before .before .before .before .before .before .before .if1) .left) ((c .before .if2) .taken)) ((c .refuse2) .ensures)
+refuse-requires : tie.Need-refuse-requires
+refuse-requires c κs = search needs
+
+returns : tie.Need-returns
+returns c =
+    let r = c .before .before .before .before .before .before .before .before .before .before .before .before .before .before .pre in
+    refused r ((c .before .before .reserve-refusal) .result) (reserve-refused r _ _ ((c .before .before .before .before .before .clip) .ensures) ((c .before .before .before .locate) .ensures) _ ((c .before .before .reserve-refusal) .ensures) ((c .before .if1) .taken)) ((c .refuse) .ensures)
 
 clip-requires-2 : tie.Need-clip-requires-2
 clip-requires-2 c κs = search needs
@@ -48,20 +52,20 @@ add-start c = omega (arith, plan-short (c .before .before .before .before .befor
 less-requires : tie.Need-less-requires
 less-requires c κs = search needs
 
-add-with-reservations : tie.Need-add-with-reservations
-add-with-reservations c = omega (arith, plan-short (c .before .before .before .before .before .before .before .before .before .before .before .before .before .before .before .before .before .pre) _ ((c .before .before .clip2) .ensures), request-short (c .before .before .before .before .before .before .before .before .before .before .before .before .before .before .before .before .before .pre), (c .before .less) .ensures)
+add-after-insert : tie.Need-add-after-insert
+add-after-insert c = omega (arith, reserve-room (c .before .before .before .before .before .before .before .before .before .before .before .before .before .before .before .before .before .pre) _ ((c .before .before .clip2) .ensures) _ ((c .before .less) .ensures) .2)
 
-add-with-reservations-2 : tie.Need-add-with-reservations-2
-add-with-reservations-2 c = omega (arith, plan-short (c .before .before .before .before .before .before .before .before .before .before .before .before .before .before .before .before .before .pre) _ ((c .before .before .clip2) .ensures), request-short (c .before .before .before .before .before .before .before .before .before .before .before .before .before .before .before .before .before .pre), (c .before .less) .ensures)
+add-after-insert-2 : tie.Need-add-after-insert-2
+add-after-insert-2 c = omega (arith, reserve-room (c .before .before .before .before .before .before .before .before .before .before .before .before .before .before .before .before .before .pre) _ ((c .before .before .clip2) .ensures) _ ((c .before .less) .ensures) .2)
 
-add-with-reservations-3 : tie.Need-add-with-reservations-3
-add-with-reservations-3 c = omega (arith, plan-short (c .before .before .before .before .before .before .before .before .before .before .before .before .before .before .before .before .before .before .pre) _ ((c .before .before .before .clip2) .ensures), request-short (c .before .before .before .before .before .before .before .before .before .before .before .before .before .before .before .before .before .before .pre), (c .before .before .less) .ensures, table-small (c .before .before .before .before .before .before .before .before .before .before .before .before .before .before .before .before .before .before .pre) .0)
+after-insert-requires : tie.Need-after-insert-requires
+after-insert-requires c κs = reserve-room (c .before .before .before .before .before .before .before .before .before .before .before .before .before .before .before .before .before .pre) _ ((c .before .before .clip2) .ensures) _ ((c .before .less) .ensures)
 
-add-with-reservations-4 : tie.Need-add-with-reservations-4
-add-with-reservations-4 c = omega (arith, table-small (c .before .before .before .before .before .before .before .before .before .before .before .before .before .before .before .before .before .before .before .pre) .1)
+revised-requires : tie.Need-revised-requires
+revised-requires c κs = search needs
 
-with-reservations-requires : tie.Need-with-reservations-requires
-with-reservations-requires c κs = search needs
+element-set-from-after : tie.Need-element-set-from-after
+element-set-from-after c = search needs
 
 less-requires-2 : tie.Need-less-requires-2
 less-requires-2 c κs = search needs
@@ -70,7 +74,9 @@ slice-aggregate-emit : tie.Need-slice-aggregate-emit
 slice-aggregate-emit c = search needs
 
 emit-requires : tie.Need-emit-requires
-emit-requires c κs = (small-more (c .before .before .before .before .before .before .before .before .before .before .before .before .before .before .before .before .before .before .before .before .before .before .before .before .before .pre) ((c .before .before .before .before .before .before .before .before .before .before .clip2) .result .now) ((c .before .before .before .before .before .before .before .before .before .before .clip2) .ensures) (1 + length ((c .before .before .before .before .before .before .before .before .before .before .clip2) .result .now)) (35 + (1 + length ((c .before .before .before .before .before .before .before .before .before .before .clip2) .result .now))) ((c .before .before .before .before .before .before .before .before .before .less) .result) refl refl ((c .before .before .before .before .before .before .before .before .before .less) .ensures) ((c .before .before .before .before .before .before .before .before .before .before .before .before .before .before .before .before .before .clip) .result .now) ((c .before .before .before .before .before .before .before .before .before .before .before .before .before .before .locate) .result) ((c .before .before .before .before .before .before .before .before .before .before .before .before .before .before .before .before .before .clip) .ensures) ((c .before .before .before .before .before .before .before .before .before .before .before .before .before .before .locate) .ensures) ((c .before .before .before .before .before .before .before .before .before .before .before .before .if2) .left) ((c .before .before .before .before .before .before .before .before .before .before .before .before .before .before .before .before .before .before .before .before .before .before .before .before .before .args) .c .reservations .size + ((c .before .before .before .before .before .before .before .before .before .less) .result + (1 + length ((c .before .before .before .before .before .before .before .before .before .before .clip2) .result .now)) + 24)) ((c .before .before .before .before .before .before .before .before .before .before .before .before .before .before .before .before .before .before .before .before .before .before .before .before .before .args) .c .reservations .count + 1) refl refl _ ((c .before .before .before .before .before .with-reservations) .ensures), permit-fits (c .before .before .before .before .before .before .before .before .before .before .before .before .before .before .before .before .before .before .before .before .before .before .before .before .before .pre) ((c .before .before .before .before .before .before .before .before .before .before .clip2) .result .now) ((c .before .before .before .before .before .before .before .before .before .before .clip2) .ensures) (1 + length ((c .before .before .before .before .before .before .before .before .before .before .clip2) .result .now)) (35 + (1 + length ((c .before .before .before .before .before .before .before .before .before .before .clip2) .result .now))) ((c .before .before .before .before .before .before .before .before .before .less) .result) refl refl ((c .before .before .before .before .before .before .before .before .before .less) .ensures))
+emit-requires c κs =
+    let r = c .before .before .before .before .before .before .before .before .before .before .before .before .before .before .before .before .before .before .before .before .before .before .before .before .pre in
+    (reserve-small r _ ((c .before .before .before .before .before .before .before .before .before .clip2) .ensures) _ ((c .before .before .before .before .before .before .before .before .less) .ensures) _ _ ((c .before .before .before .before .before .before .before .before .before .before .before .before .before .before .before .clip) .ensures) ((c .before .before .before .before .before .before .before .before .before .before .before .before .before .locate) .ensures) _ ((c .before .before .before .before .before .before .after-insert) .ensures) _ ((c .before .before .before .before .before .revised) .ensures), permit-fits r _ ((c .before .before .before .before .before .before .before .before .before .clip2) .ensures) _ ((c .before .before .before .before .before .before .before .before .less) .ensures))
 
 same-length : tie.Need-same-length
 same-length c = search needs
@@ -78,11 +84,19 @@ same-length c = search needs
 same-length-2 : tie.Need-same-length-2
 same-length-2 c = search needs
 
-returns-3 : tie.Need-returns-3
-returns-3 c = done (c .before .before .before .before .before .before .before .before .before .before .before .before .before .before .before .before .before .before .before .before .before .before .before .before .before .before .before .before .before .before .pre) (reserved ((c .before .before .before .before .before .before .before .before .before .before .before .before .before .before .before .before .before .before .before .before .before .before .before .before .before .before .before .before .before .before .pre) .state) (permit-made (c .before .before .before .before .before .before .before .before .before .before .before .before .before .before .before .before .before .before .before .before .before .before .before .before .before .before .before .before .before .before .pre))) (DeleteReserved (permit-made (c .before .before .before .before .before .before .before .before .before .before .before .before .before .before .before .before .before .before .before .before .before .before .before .before .before .before .before .before .before .before .pre))) 0 ((c .before .before .before .before .before .before .before .before .before .before .with-reservations) .result) (0 ∷ (c .before .before .before .before .before .before .before .before .before .before .before .before .before .before .before .before .before .before .before .before .before .before .before .before .before .before .before .before .before .before .args) .c .intents .at ∷ (c .before .before .before .before .before .before .before .before .before .less2) .result ∷ 1 ∷ (35 + (1 + length ((c .before .before .before .before .before .before .before .before .before .before .before .before .before .before .before .clip2) .result .now))) ∷ (c .before .before .before .before .before .before .before .before .before .before .before .before .before .before .less) .result ∷ 1 ∷ 27 ∷ (1 + length ((c .before .before .before .before .before .before .before .before .before .before .before .before .before .before .before .clip2) .result .now)) ∷ 2 ∷ (c .before .before .before .before .before .before .before .before .before .before .before .before .before .before .before .before .before .before .before .before .before .before .before .before .before .before .before .before .before .before .args) .x .generation ∷ 8 ∷ 2 ∷ (c .before .before .before .before .before .before .before .before .before .before .before .before .before .before .before .before .before .before .before .before .before .before .before .before .before .before .before .before .before .before .args) .x .position .term ∷ 8 ∷ 2 ∷ (c .before .before .before .before .before .before .before .before .before .before .before .before .before .before .before .before .before .before .before .before .before .before .before .before .before .before .before .before .before .before .args) .x .position .index ∷ 8 ∷ 0 ∷ (c .before .before .before .before .before .before .before .before .before .before .before .before .before .before .before .before .before .before .before .locate) .result .end ∷ length ((c .before .before .before .before .before .before .before .before .before .before .before .before .before .before .before .before .before .before .before .before .before .before .before .before .before .before .before .before .before .before .args) .image .now) ∷ []) ((c .before .before .before .before .before .before .before .before .before .before .before .before .before .before .before .before .before .before .before .before .before .before .before .before .before .before .before .before .before .before .args) .image .now) (PublicationOutcome.DeleteReserved (permit-told (c .before .before .before .before .before .before .before .before .before .before .before .before .before .before .before .before .before .before .before .before .before .before .before .before .before .before .before .before .before .before .pre)))
-    (taken (c .before .before .before .before .before .before .before .before .before .before .before .before .before .before .before .before .before .before .before .before .before .before .before .before .before .before .before .before .before .before .pre) ((c .before .before .before .before .before .before .before .before .before .before .before .before .before .before .before .before .before .before .before .before .before .before .clip) .result .now) ((c .before .before .before .before .before .before .before .before .before .before .before .before .before .before .before .before .before .before .before .locate) .result) ((c .before .before .before .before .before .before .before .before .before .before .before .before .before .before .before .before .before .before .before .before .before .before .clip) .ensures) ((c .before .before .before .before .before .before .before .before .before .before .before .before .before .before .before .before .before .before .before .locate) .ensures) ((c .before .before .before .before .before .before .before .before .before .before .before .before .before .before .before .before .before .before .before .before .before .before .before .before .before .reserve-refusal) .result) ((c .before .before .before .before .before .before .before .before .before .before .before .before .before .before .before .before .before .before .before .before .before .before .before .before .before .reserve-refusal) .ensures) ((c .before .before .before .before .before .before .before .before .before .before .before .before .before .before .before .before .before .before .before .before .before .before .before .before .if1) .left) ((c .before .before .before .before .before .before .before .before .before .before .before .before .before .before .before .before .before .if2) .left))
-    (shows-more (c .before .before .before .before .before .before .before .before .before .before .before .before .before .before .before .before .before .before .before .before .before .before .before .before .before .before .before .before .before .before .pre) ((c .before .before .before .before .before .before .before .before .before .before .before .before .before .before .before .clip2) .result .now) ((c .before .before .before .before .before .before .before .before .before .before .before .before .before .before .before .clip2) .ensures) (1 + length ((c .before .before .before .before .before .before .before .before .before .before .before .before .before .before .before .clip2) .result .now)) (35 + (1 + length ((c .before .before .before .before .before .before .before .before .before .before .before .before .before .before .before .clip2) .result .now))) ((c .before .before .before .before .before .before .before .before .before .before .before .before .before .before .less) .result) refl refl ((c .before .before .before .before .before .before .before .before .before .before .before .before .before .before .less) .ensures) ((c .before .before .before .before .before .before .before .before .before .before .before .before .before .before .before .before .before .before .before .before .before .before .clip) .result .now) ((c .before .before .before .before .before .before .before .before .before .before .before .before .before .before .before .before .before .before .before .locate) .result) ((c .before .before .before .before .before .before .before .before .before .before .before .before .before .before .before .before .before .before .before .before .before .before .clip) .ensures) ((c .before .before .before .before .before .before .before .before .before .before .before .before .before .before .before .before .before .before .before .locate) .ensures) ((c .before .before .before .before .before .before .before .before .before .before .before .before .before .before .before .before .before .if2) .left) ((c .before .before .before .before .before .before .before .before .before .before .before .before .before .before .before .before .before .before .before .before .before .before .before .before .before .before .before .before .before .before .args) .c .reservations .size + ((c .before .before .before .before .before .before .before .before .before .before .before .before .before .before .less) .result + (1 + length ((c .before .before .before .before .before .before .before .before .before .before .before .before .before .before .before .clip2) .result .now)) + 24)) ((c .before .before .before .before .before .before .before .before .before .before .before .before .before .before .before .before .before .before .before .before .before .before .before .before .before .before .before .before .before .before .args) .c .reservations .count + 1) refl refl _ ((c .before .before .before .before .before .before .before .before .before .before .with-reservations) .ensures))
-    (body-more (c .before .before .before .before .before .before .before .before .before .before .before .before .before .before .before .before .before .before .before .before .before .before .before .before .before .before .before .before .before .before .pre) ((c .before .before .before .before .before .before .before .before .before .before .before .before .before .before .before .clip2) .result .now) ((c .before .before .before .before .before .before .before .before .before .before .before .before .before .before .before .clip2) .ensures) (1 + length ((c .before .before .before .before .before .before .before .before .before .before .before .before .before .before .before .clip2) .result .now)) (35 + (1 + length ((c .before .before .before .before .before .before .before .before .before .before .before .before .before .before .before .clip2) .result .now))) ((c .before .before .before .before .before .before .before .before .before .before .before .before .before .before .less) .result) refl refl ((c .before .before .before .before .before .before .before .before .before .before .before .before .before .before .less) .ensures) ((c .before .before .before .before .before .before .before .before .before .before .before .before .before .before .before .before .before .before .before .before .before .before .clip) .result .now) ((c .before .before .before .before .before .before .before .before .before .before .before .before .before .before .before .before .before .before .before .locate) .result) ((c .before .before .before .before .before .before .before .before .before .before .before .before .before .before .before .before .before .before .before .before .before .before .clip) .ensures) ((c .before .before .before .before .before .before .before .before .before .before .before .before .before .before .before .before .before .before .before .locate) .ensures) ((c .before .before .before .before .before .before .before .before .before .before .before .before .before .before .before .before .before .if2) .left) _ ((c .before .before .before .before .before .before .before .before .before .less2) .ensures))
+returns-2 : tie.Need-returns-2
+returns-2 c =
+    let r = c .before .before .before .before .before .before .before .before .before .before .before .before .before .before .before .before .before .before .before .before .before .before .before .before .before .before .before .before .before .pre in
+    let a = c .before .before .before .before .before .before .before .before .before .before .before .before .before .before .before .before .before .before .before .before .before .before .before .before .before .before .before .before .before .args in
+    let plan-size = 1 + length ((c .before .before .before .before .before .before .before .before .before .before .before .before .before .before .clip2) .result .now) in
+    let g = a .x .generation in
+    let p = a .x .position in
+    done r (reserved (r .state) (permit-made r)) (DeleteReserved (permit-made r)) (a .image .now) _
+    (0 ∷ tablesAt (a .c) ∷ (c .before .before .before .before .before .before .before .before .before .less2) .result ∷ 1 ∷ (35 + plan-size) ∷ (c .before .before .before .before .before .before .before .before .before .before .before .before .before .less) .result ∷ 1 ∷ 27 ∷ plan-size ∷ 2 ∷ g ∷ 8 ∷ 2 ∷ p .term ∷ 8 ∷ 2 ∷ p .index ∷ 8 ∷ 0 ∷ (c .before .before .before .before .before .before .before .before .before .before .before .before .before .before .before .before .before .before .locate) .result .end ∷ length (a .image .now) ∷ [])
+    (a .image .now) (PublicationOutcome.DeleteReserved (permit-told r))
+    (reserve-taken r _ _ ((c .before .before .before .before .before .before .before .before .before .before .before .before .before .before .before .before .before .before .before .before .clip) .ensures) ((c .before .before .before .before .before .before .before .before .before .before .before .before .before .before .before .before .before .before .locate) .ensures) _ ((c .before .before .before .before .before .before .before .before .before .before .before .before .before .before .before .before .before .reserve-refusal) .ensures) ((c .before .before .before .before .before .before .before .before .before .before .before .before .before .before .before .before .if1) .left))
+    (reserve-shows r _ ((c .before .before .before .before .before .before .before .before .before .before .before .before .before .before .clip2) .ensures) _ ((c .before .before .before .before .before .before .before .before .before .before .before .before .before .less) .ensures) _ _ ((c .before .before .before .before .before .before .before .before .before .before .before .before .before .before .before .before .before .before .before .before .clip) .ensures) ((c .before .before .before .before .before .before .before .before .before .before .before .before .before .before .before .before .before .before .locate) .ensures) _ ((c .before .before .before .before .before .before .before .before .before .before .before .after-insert) .ensures) _ ((c .before .before .before .before .before .before .before .before .before .before .revised) .ensures))
+    (reserve-tables r _ ((c .before .before .before .before .before .before .before .before .before .before .before .before .before .before .clip2) .ensures) _ ((c .before .before .before .before .before .before .before .before .before .before .before .before .before .less) .ensures) _ _ ((c .before .before .before .before .before .before .before .before .before .before .before .before .before .before .before .before .before .before .before .before .clip) .ensures) ((c .before .before .before .before .before .before .before .before .before .before .before .before .before .before .before .before .before .before .locate) .ensures) _ ((c .before .before .before .before .before .before .before .before .before .less2) .ensures))
     refl
     ((c .before .before .before .before .emit) .ensures)
 
@@ -90,26 +104,26 @@ pub reserve-delete-spec : {M : Type 1} → statement M
 reserve-delete-spec =
     tie.close
     (tie.spec
-    reserve-refusal-requires
-    refuse-requires
-    returns
+    array-copy-out-intents
+    array-copy-out-reservations
     clip-requires
     slice-aggregate-locate
     locate-requires
-    refuse-requires-2
-    returns-2
+    reserve-refusal-requires
+    refuse-requires
+    returns
     clip-requires-2
     add-plan-size
     add-start
     less-requires
-    add-with-reservations
-    add-with-reservations-2
-    add-with-reservations-3
-    add-with-reservations-4
-    with-reservations-requires
+    add-after-insert
+    add-after-insert-2
+    after-insert-requires
+    revised-requires
+    element-set-from-after
     less-requires-2
     slice-aggregate-emit
     emit-requires
     same-length
     same-length-2
-    returns-3)
+    returns-2)

@@ -16,10 +16,10 @@ use Rattle.leases.proofs.oldest_without.Statement.{statement}
 use Rattle.leases.proofs.oldest_without.Tie as tie
 
 abbrev Inv-loop : tie.InvT-loop
-Inv-loop s at n id floor before i₀ p₀ m₀ t10 i p m = (i ≤ n) × (oldestKept (named id) floor (rows-at (codes lease) n (drop at s)) ≡ oldestKept (named id) m (rows-at (codes lease) (n - i) (drop p s)))
+Inv-loop s at n id floor i₀ p₀ m₀ t9 t10 i p m = (i ≤ n) × (oldestKept (named id) floor (rows-at (codes lease) n (drop at s)) ≡ oldestKept (named id) m (rows-at (codes lease) (n - i) (drop p s)))
 
 abbrev μ-loop : tie.MeasureT-loop
-μ-loop s at n id floor before i₀ p₀ m₀ t10 i p m = n - i
+μ-loop s at n id floor i₀ p₀ m₀ t9 t10 i p m = n - i
 
 within-requires : tie.Need-within-requires Inv-loop μ-loop
 within-requires c κs = search needs
@@ -32,6 +32,9 @@ text-at-requires c κs = search needs
 
 same-requires : tie.Need-same-requires Inv-loop μ-loop
 same-requires c κs = search needs
+
+array-share-prefix-number-after : tie.Need-array-share-prefix-number-after Inv-loop μ-loop
+array-share-prefix-number-after c = search needs
 
 slice-aggregate-number-after : tie.Need-slice-aggregate-number-after Inv-loop μ-loop
 slice-aggregate-number-after c = search needs
@@ -75,6 +78,7 @@ oldest-without-spec =
     loop-holds
     text-at-requires
     same-requires
+    array-share-prefix-number-after
     slice-aggregate-number-after
     number-after-requires
     older-requires

@@ -1,16 +1,15 @@
 use Rattle.image.specs.Shapes.{job}
 use Prim.Native.Nat.{_≤_, _-_, zero-le}
-use mathlib.Core.Path.{_≡_, sym, ap, _∙_}
+use mathlib.Core.Path.{_≡_, refl, sym, ap, _∙_}
 use mathlib.Core.List.{List}
 use native.Mathlib.Omega.{arith}
 use lib.ListN.{drop}
 use Rattle.state.specs.Maps.{any}
-use Rattle.fields.specs.Codes.{Code, codes, skip}
+use Rattle.fields.specs.Codes.{Code, codes, skip, shape-codes}
 use Rattle.fields.specs.Walks.{placeOf}
 use Rattle.tables.specs.Seek.{rows-at}
 use Rattle.scans.specs.Scans.{usesAt}
 use Rattle.scans.proofs.Steps.{scan-start, scan-end, scan-here, scan-on, uses-told}
-use Rattle.image.specs.CodeLists.{job-codes}
 use borrow.Author.Needs.{needs}
 use Rattle.scans.proofs.any_uses.Statement.{statement}
 use Rattle.scans.proofs.any_uses.Tie as tie
@@ -41,7 +40,7 @@ returns : tie.Need-returns Inv-loop μ-loop
 returns c =
     let a = (c .before .before .before .before .before .before .before .before .before .args) in
     let l = (c .before .before .before .before .before .loop) in
-    let t = uses-told _ (a .key .now) (drop (l .p) (a .s .now)) _ _ _ job-codes ((c .before .before .row-at) .ensures) ((c .before .job-uses) .ensures) ((c .if1) .taken) in
+    let t = uses-told _ (a .key .now) (drop (l .p) (a .s .now)) _ _ _ (shape-codes job refl) ((c .before .before .row-at) .ensures) ((c .before .job-uses) .ensures) ((c .if1) .taken) in
     sym (l .inv .1 ∙ scan-here (usesAt (a .key .now)) (codes job) (a .s .now) (a .n) (l .i) (l .p) ((c .before .before .before .before .loop-test) .taken) t)
 
 slice-aggregate-place-after : tie.Need-slice-aggregate-place-after Inv-loop μ-loop
@@ -60,8 +59,8 @@ loop-again : tie.Need-loop-again Inv-loop μ-loop
 loop-again c =
     let a = (c .before .before .before .before .before .before .before .before .before .before .before .args) in
     let l = (c .before .before .before .before .before .before .before .loop) in
-    let t = uses-told _ (a .key .now) (drop (l .p) (a .s .now)) _ _ _ job-codes ((c .before .before .before .before .row-at) .ensures) ((c .before .before .before .job-uses) .ensures) ((c .before .before .if1) .left) in
-    let e = (c .place-after) .ensures ∙ ap (λ (cs : List Code). placeOf (a .s .now) (skip 0 cs (drop (l .p) (a .s .now)))) job-codes in
+    let t = uses-told _ (a .key .now) (drop (l .p) (a .s .now)) _ _ _ (shape-codes job refl) ((c .before .before .before .before .row-at) .ensures) ((c .before .before .before .job-uses) .ensures) ((c .before .before .if1) .left) in
+    let e = (c .place-after) .ensures ∙ ap (λ (cs : List Code). placeOf (a .s .now) (skip 0 cs (drop (l .p) (a .s .now)))) (shape-codes job refl) in
     (omega arith, l .inv .1 ∙ scan-on (usesAt (a .key .now)) (codes job) (a .s .now) (a .n) (l .i) (l .p) _ ((c .before .before .before .before .before .before .loop-test) .taken) t e)
 
 returns-2 : tie.Need-returns-2 Inv-loop μ-loop

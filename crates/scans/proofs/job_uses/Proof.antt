@@ -3,6 +3,9 @@ use borrow.Author.Needs.{needs}
 use Rattle.scans.proofs.job_uses.Statement.{statement}
 use Rattle.scans.proofs.job_uses.Tie as tie
 
+array-share-prefix-skip-record : tie.Need-array-share-prefix-skip-record
+array-share-prefix-skip-record c = search needs
+
 slice-aggregate-skip-record : tie.Need-slice-aggregate-skip-record
 slice-aggregate-skip-record c = search needs
 
@@ -17,6 +20,9 @@ same-requires c κs = search needs
 
 returns : tie.Need-returns
 returns c = uses-first ((c .before .before .before .before .before .before .before .args) .key .now) ((c .before .before .before .before .before .before .before .args) .job .now) _ _ _ ((c .before .before .before .skip-record) .ensures) ((c .before .before .text-at) .ensures) ((c .before .same) .ensures) ((c .if1) .taken)
+
+array-share-prefix-skip-record-2 : tie.Need-array-share-prefix-skip-record-2
+array-share-prefix-skip-record-2 c = search needs
 
 slice-aggregate-skip-record-2 : tie.Need-slice-aggregate-skip-record-2
 slice-aggregate-skip-record-2 c = search needs
@@ -37,11 +43,13 @@ pub job-uses-spec : {M : Type 1} → statement M
 job-uses-spec =
     tie.close
     (tie.spec
+    array-share-prefix-skip-record
     slice-aggregate-skip-record
     skip-record-requires
     text-at-requires
     same-requires
     returns
+    array-share-prefix-skip-record-2
     slice-aggregate-skip-record-2
     skip-record-requires-2
     text-at-requires-2

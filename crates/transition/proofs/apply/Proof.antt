@@ -1,8 +1,8 @@
-use mathlib.Core.Path.{sym, ap, _∙_}
 use native.Mathlib.Omega.{arith}
-use Rattle.image.specs.Layout.{decodeImage}
+use mathlib.Core.Path.{sym, ap, _∙_}
+use borrow.Author.Tests.{not-true, not-false}
+use Rattle.image.specs.OpenedLaws.{opened-as, not-opened}
 use Rattle.requests.specs.Meaning.{parsedOf}
-use Rattle.validation.specs.Validation.{opened-state, not-opened}
 use Rattle.transition.specs.Asked.{asked-of, no-image, no-request}
 use borrow.Author.Needs.{needs}
 use Rattle.transition.proofs.apply.Statement.{statement}
@@ -11,17 +11,11 @@ use Rattle.transition.proofs.apply.Tie as tie
 open-requires : tie.Need-open-requires
 open-requires c κs = search needs
 
-enum-known-o : tie.Need-enum-known-o
-enum-known-o c = search needs
-
-enum-told : tie.Need-enum-told
-enum-told c = search needs
-
 refuse-requires : tie.Need-refuse-requires
 refuse-requires c κs = search needs
 
 returns : tie.Need-returns
-returns c = let g = no-image ((c .before .before .before .before .before .before .before .before .args) .image .now) ((c .before .before .before .before .before .before .before .before .args) .request .now) (not-opened (decodeImage ((c .before .before .before .before .before .before .before .before .args) .image .now)) (sym ((c .before .enum-told) .given .1) ∙ (c .before .before .before .«open») .ensures)) ((c .refuse) .ensures) in (g .answer, (g .image, g .outcome))
+returns c = let a = (c .before .before .before .before .before .before .before .before .args) in let g = no-image (a .image .now) (a .request .now) (not-opened (a .image .now) _ ((c .before .before .before .«open») .ensures) (not-true _ ((c .before .if1) .taken))) ((c .refuse) .ensures) in (g .answer, (g .image, g .outcome))
 
 parse-requires : tie.Need-parse-requires
 parse-requires c κs = search needs
@@ -36,10 +30,10 @@ enum-known-p-2 : tie.Need-enum-known-p-2
 enum-known-p-2 c = search needs
 
 apply-request-requires : tie.Need-apply-request-requires
-apply-request-requires c κs = asked-of ((c .before .before .before .before .before .before .before .before .before .before .before .before .before .before .args) .image .now) ((c .before .before .before .before .before .before .before .before .before .before .before .before .before .before .args) .request .now) _ _ (λ i. omega (arith, (c .before .before .before .before .before .before .before .before .before .before .before .before .before .shared-slice-known) .given i)) (λ i. omega (arith, (c .before .before .before .before .before .before .before .before .before .before .before .before .shared-slice-known2) .given i)) (sym ((c .before .before .before .before .before .before .before .o) .given .1) ∙ (c .before .before .before .before .before .before .before .before .before .«open») .ensures) (ap (parsedOf ((c .before .before .before .before .before .before .before .before .before .before .before .before .before .before .args) .request .now)) (sym ((c .before .before .before .p2) .given .1)) ∙ (c .before .before .before .before .before .parse) .ensures .0) (sym ((c .before .before .before .p2) .given .1) ∙ (c .before .before .before .before .before .parse) .ensures .1)
+apply-request-requires c κs = let a = (c .before .before .before .before .before .before .before .before .before .before .before .before .before .before .args) in asked-of (a .image .now) (a .request .now) _ _ (opened-as (a .image .now) _ ((c .before .before .before .before .before .before .before .before .before .«open») .ensures) (λ i. omega (arith, (c .before .before .before .before .before .before .before .before .before .before .before .before .before .shared-slice-known) .given i)) (not-false _ ((c .before .before .before .before .before .before .before .if1) .left))) (λ i. omega (arith, (c .before .before .before .before .before .before .before .before .before .before .before .before .shared-slice-known2) .given i)) (ap (parsedOf (a .request .now)) (sym ((c .before .before .before .p2) .given .1)) ∙ (c .before .before .before .before .before .parse) .ensures .0) (sym ((c .before .before .before .p2) .given .1) ∙ (c .before .before .before .before .before .parse) .ensures .1)
 
 returns-2 : tie.Need-returns-2
-returns-2 c = let g = no-request ((c .before .before .before .before .before .before .before .before .before .before .before .before .before .args) .image .now) ((c .before .before .before .before .before .before .before .before .before .before .before .before .before .args) .request .now) _ _ (opened-state (decodeImage ((c .before .before .before .before .before .before .before .before .before .before .before .before .before .args) .image .now)) _ (sym ((c .before .before .before .before .before .before .o) .given .1) ∙ (c .before .before .before .before .before .before .before .before .«open») .ensures) .1) (sym (ap (parsedOf ((c .before .before .before .before .before .before .before .before .before .before .before .before .before .args) .request .now)) (sym ((c .before .before .p) .given .1)) ∙ (c .before .before .before .before .parse) .ensures .0)) ((c .refuse2) .ensures) in (g .answer, (g .image, g .outcome))
+returns-2 c = let a = (c .before .before .before .before .before .before .before .before .before .before .before .before .before .args) in let g = no-request (a .image .now) (a .request .now) _ _ (opened-as (a .image .now) _ ((c .before .before .before .before .before .before .before .before .«open») .ensures) (λ i. omega (arith, (c .before .before .before .before .before .before .before .before .before .before .before .before .shared-slice-known) .given i)) (not-false _ ((c .before .before .before .before .before .before .if1) .left)) .reads) (sym (ap (parsedOf (a .request .now)) (sym ((c .before .before .p) .given .1)) ∙ (c .before .before .before .before .parse) .ensures .0)) ((c .refuse2) .ensures) in (g .answer, (g .image, g .outcome))
 
 same-length : tie.Need-same-length
 same-length c = search needs
@@ -55,8 +49,6 @@ apply-spec =
     tie.close
     (tie.spec
     open-requires
-    enum-known-o
-    enum-told
     refuse-requires
     returns
     parse-requires
