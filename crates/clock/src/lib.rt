@@ -1,4 +1,6 @@
 // The lease clock: every lease goes whose deadline is reached.
+#![tactic(auto)]
+
 ghost use Rattle.std.specs.Prelude.{cond, ◌≡◌, ◌+◌, ◌-◌, ◌≤◌, ◌<◌, eqb, length};
 ghost use Rattle.parts.specs.Answer.{Gave};
 ghost use Rattle.parts.specs.Gather.{Filled};

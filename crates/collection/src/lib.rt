@@ -1,4 +1,6 @@
 // The actions on the collection root and on collection jobs.
+#![tactic(auto)]
+
 ghost use Rattle.std.specs.Prelude.{◌≡◌, length};
 ghost use Rattle.parts.specs.Answer.{Gave};
 ghost use Rattle.machine.specs.Tests.{first_of};

@@ -1,4 +1,6 @@
 // Collection jobs: prepared.
+#![tactic(auto)]
+
 ghost use Rattle.std.specs.Prelude.{◌≡◌, cond, not, ◌&&◌, length, drop, eqb, ◌≤◌};
 ghost use Rattle.parts.specs.Answer.{Gave};
 ghost use Rattle.machine.specs.Tests.{first_of};

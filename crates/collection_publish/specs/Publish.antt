@@ -6,7 +6,7 @@ use mathlib.Core.List.{List, [], ◌∷◌, ◌++◌, append_assoc, append-nil}
 use Rattle.std.proofs.Math.Option.{some}
 use Rattle.std.proofs.Math.Path.{refl, sym, ap}
 use Rattle.std.proofs.Math.ListN.{length, drop, length-append}
-use borrow.Author.Tests.{eqb-true, eqb-false, not_false}
+use borrow.Author.Tests.{eqb-true, eqb-false, not-false}
 use Rattle.text.specs.Same.{same_of}
 use Rattle.parts.specs.Answer.{longest}
 use Rattle.parts.specs.Digits.{digits}
@@ -226,7 +226,7 @@ module _ {x q : List ℕ} {c : Contents} {y : ContextAt} {g : FaultsAt} {a : Rec
                         (
                           ap not (equal v),
                           λ z.
-                              let t : token ≡ v.value = sym (job_sound v.value token (not_false _ z)) in
+                              let t : token ≡ v.value = sym (job_sound v.value token (not-false _ z)) in
                               ap (λ (w : CollectionJobToken). not (eqb w.owner_generation y.generation)) t
                               then (λ i. not g.ignore_collection_range_epoch && not (eqb (t i).range_map_epoch (number_is pre.holds 10 i)))
                               then (λ i. not (same_option same (pre.holds.root_text i) (some (t i).destination_root)))
@@ -247,7 +247,7 @@ module _ {x q : List ℕ} {c : Contents} {y : ContextAt} {g : FaultsAt} {a : Rec
               published z =
                   let passed = first-passed tests rule tests_agree n told z in
                   let v = there passed.1.1.0 in
-                  let t = job_sound v.value token (sym (equal v) ∙ not_false _ passed.1.1.1.0) in
+                  let t = job_sound v.value token (sym (equal v) ∙ not-false _ passed.1.1.1.0) in
                   first_decides tests rule tests_agree n told z _ (token, v.looked ∙ ap some t, refl)
 
         -- ---- what is written

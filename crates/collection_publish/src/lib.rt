@@ -1,4 +1,6 @@
 // Collection jobs: published.
+#![tactic(auto)]
+
 ghost use Rattle.std.specs.Prelude.{◌≡◌, ◌≤◌, length};
 ghost use Rattle.parts.specs.Answer.{Gave};
 ghost use Rattle.machine.specs.Tests.{first_of};

@@ -1,4 +1,6 @@
 // The actions on reservations for deletion.
+#![tactic(auto)]
+
 ghost use Rattle.std.specs.Prelude.{◌≡◌, not, ◌&&◌, eqb, length};
 ghost use Rattle.parts.specs.Answer.{Gave};
 ghost use Rattle.entries.specs.Bytes.{apply_bytes};

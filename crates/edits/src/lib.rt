@@ -1,4 +1,6 @@
 // A change by id: what a stored row holds, and the table after the change.
+#![tactic(auto)]
+
 ghost use Rattle.std.specs.Prelude.{◌≡◌, ◌≤◌, drop};
 ghost use Rattle.text.specs.Same.{same_of};
 ghost use Rattle.parts.specs.Answer.{longest};

@@ -1,4 +1,6 @@
 // Walks over the bytes of a record: a shape is a list of codes, and one walker reads any shape.
+#![tactic(auto)]
+
 ghost use Rattle.std.specs.Prelude.{◌≡◌, cond, ◌+◌, ◌-◌, ◌≤◌, ◌<◌, min, length, drop, eqb};
 ghost use Rattle.std.proofs.Math.Option.{none, some};
 ghost use Rattle.fields.specs.Format.{many, read_kind, read_text, after, rows, itself, read_set};

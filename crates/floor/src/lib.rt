@@ -1,4 +1,6 @@
 // The read floor, and the actions that move it by numbers alone: frontier, window, range map.
+#![tactic(auto)]
+
 ghost use Rattle.std.specs.Prelude.{◌≡◌, ◌+◌, ◌-◌, min, max, length, drop};
 ghost use Rattle.fields.specs.Codes.{codes};
 ghost use Rattle.image.specs.Shapes.{lease};

@@ -1,4 +1,6 @@
 // The image: opened once, then read by place.
+#![tactic(auto)]
+
 ghost use Rattle.std.specs.Prelude.{◌≡◌, ◌+◌, ◌*◌, ◌≤◌, ◌<◌, length, drop, leb, eqb};
 ghost use Rattle.std.proofs.Math.Option.{none};
 ghost use Rattle.parts.specs.Answer.{written_of, laid_over};

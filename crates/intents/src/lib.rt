@@ -1,4 +1,6 @@
 // Publications: prepare and publish.
+#![tactic(auto)]
+
 ghost use Rattle.std.specs.Prelude.{◌≡◌, not, ◌&&◌, length, drop};
 ghost use Rattle.text.specs.Same.{same_of};
 ghost use Rattle.parts.specs.Answer.{Gave};

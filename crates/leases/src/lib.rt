@@ -1,4 +1,6 @@
 // The actions on one lease by its id: acquire, renew, release.
+#![tactic(auto)]
+
 ghost use Rattle.std.specs.Prelude.{cond, not, ◌&&◌, ◌≡◌, min, ltb, length, drop};
 ghost use Rattle.parts.specs.Answer.{Gave};
 ghost use Rattle.fields.specs.Codes.{codes};

@@ -6,7 +6,7 @@ use Rattle.std.proofs.Common.{ap, ◌∙◌}
 use Rattle.std.proofs.Math.Option.{Option, none, some}
 use Rattle.std.proofs.Math.Bool.{Bool, false}
 use native.Mathlib.Omega.{arith}
-use borrow.Author.Tests.{ltb-false, leb-false, eqb-true, not_false}
+use borrow.Author.Tests.{ltb-false, leb-false, eqb-true, not-false}
 use Rattle.state.specs.Maps.{Text, Map, ◌⟼◌, same, is_some, lookup, has_key, remove_all}
 use Rattle.state.specs.MapLaws.{no_way, option_clash, is_none, by_test, lookup-remove_all, found-insert, found-remove, any_value_false, none_contained, keys_where_has}
 use Rattle.state.specs.SortLaws.{rearranged_any}
@@ -240,7 +240,7 @@ module _ {n : ℕ} (few : n < top) {L : Ledger} (s : State) (i : Inv n (core s) 
       let p : SnapshotLeaseToken → Bool = ends_by d in
       let ids = expired s d in
       let m = moved_up ids s.lease_epoch n i.count few in
-      let q : e ≡ s.lease_clock_tick = eqb-true _ _ (not_false _ now) in
+      let q : e ≡ s.lease_clock_tick = eqb-true _ _ (not-false _ now) in
       let r : e < d = leb-false _ _ later in
       let ticked : Core = core (set_lease_clock_tick d (set_leases (remove_all ids s.leases) (set_lease_epoch (moved ids s.lease_epoch) s))) in
       floored _ ticked (record {
@@ -265,7 +265,7 @@ module _ {n : ℕ} (few : n < top) {L : Ledger} (s : State) (i : Inv n (core s) 
   unfolding prepare_collection
   collect_keeps id f m r e x ns c = λ now after within. plain
       let g = i.good in
-      let q : x ≡ s.physically_collected_through = eqb-true _ _ (not_false _ now) in
+      let q : x ≡ s.physically_collected_through = eqb-true _ _ (not-false _ now) in
       let lo : s.physically_collected_through < f = leb-false _ _ after in
       let hi : f ≤ s.minimum_readable_version = ltb-false _ _ within in
       record {
@@ -282,7 +282,7 @@ module _ {n : ℕ} (few : n < top) {L : Ledger} (s : State) (i : Inv n (core s) 
   publish_collection_keeps r c = λ job at now _. plain
       let g = i.good in
       let ord = g.ordered in
-      let q : job.expected_collected_through ≡ s.physically_collected_through = eqb-true _ _ (not_false _ now) in
+      let q : job.expected_collected_through ≡ s.physically_collected_through = eqb-true _ _ (not-false _ now) in
       let ok = g.job_ok _ job at in
       record {
         inv = record {

@@ -1,4 +1,6 @@
 // The next image and the outcome, measured and then written: the one way in which a transition answers.
+#![tactic(auto)]
+
 ghost use Rattle.std.specs.Prelude.{◌≡◌, ◌∷◌, ◌++◌, ◌+◌, ◌≤◌, length, take, cond};
 ghost use Rattle.machine.specs.Next.{up};
 ghost use Rattle.parts.specs.Answer.{settle, Gave};

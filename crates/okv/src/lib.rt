@@ -1,4 +1,6 @@
 // The C entry points: thin, each over one function of the layers below.
+#![tactic(auto)]
+
 ghost use Rattle.std.specs.Prelude.{◌≡◌, length as size_of};
 ghost use Rattle.parts.specs.Answer.{status_of, image_of, outcome_of};
 ghost use Rattle.parts.specs.Over.{over};

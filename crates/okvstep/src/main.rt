@@ -1,5 +1,7 @@
 // Steps the authority from its default state by the frames of standard input: a length of 4 bytes, and a request.
 // Prints a header, a line for each frame, and `end`, or `end bad` at a frame that is cut or longer than 8,192 bytes.
+#![tactic(auto)]
+
 ghost use Rattle.std.specs.Prelude.{◌≡◌, ◌+◌, ◌-◌, ◌^◌, ◌<◌, ◌≤◌, length, take};
 ghost use Rattle.parts.specs.Answer.{image_of};
 ghost use Rattle.parts.specs.Over.{over};

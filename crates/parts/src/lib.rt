@@ -1,6 +1,8 @@
 // Parts of slices, little-endian numbers, and the one writer: every image and every outcome is gathered from parts.
 // A part is three numbers k, x, n: n bytes from x on of the first source (k = 0) or of the second (k = 1), or else the
 // number x in n bytes.
+#![tactic(auto)]
+
 ghost use Rattle.std.specs.Prelude.{◌≡◌, ◌++◌, ◌+◌, ◌-◌, ◌<◌, ◌≤◌, length, take, drop, get_or};
 ghost use Rattle.parts.specs.Digits.{digits, value};
 ghost use Rattle.parts.specs.Over.{Wrote};

@@ -2,7 +2,7 @@
 -- ensures.
 use Rattle.std.specs.Prelude.{Bool, true, false, not, List, [], ◌∷◌, ◌≡◌}
 use Rattle.std.proofs.Common.{sym, ◌∙◌}
-use Rattle.std.proofs.lemmas.Bool.{not-true, not_false}
+use Rattle.std.proofs.lemmas.Bool.{not-true, not-false}
 use Rattle.state.specs.Maps.{Text, is_empty}
 use Rattle.state.specs.Records.{ObjectReference, is_manifest, valid_reference}
 use Rattle.machine.specs.Tests.{Refusal, ◌when◌}
@@ -27,4 +27,4 @@ module _ (b t : Bool) (h : b ≡ t) where
   denied k = sym h ∙ not-true b k
 
   pub granted : not b ≡ false → t ≡ true
-  granted k = sym h ∙ not_false b k
+  granted k = sym h ∙ not-false b k

@@ -1,4 +1,6 @@
 // Pins: pin, unpin; and an expected reference beside the stored one, which publications test too.
+#![tactic(auto)]
+
 ghost use Rattle.std.specs.Prelude.{◌≡◌, length, drop};
 ghost use Rattle.text.specs.Same.{same_of};
 ghost use Rattle.parts.specs.Answer.{Gave};

@@ -1,5 +1,7 @@
 // A reader that carries the image and a position, and walks the records of a table. Its functions are thin: each makes a
 // reader or takes it apart, and leaves the work to a function of a plain slice and a number.
+#![tactic(auto)]
+
 ghost use Rattle.std.specs.Prelude.{◌≡◌, drop};
 ghost use Rattle.fields.specs.Codes.{skip, codes_of};
 ghost use Rattle.fields.specs.Walks.{place_of};

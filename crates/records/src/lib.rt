@@ -1,4 +1,6 @@
 // The `is_valid` tests of records, over the places that a request's parts stand at.
+#![tactic(auto)]
+
 ghost use Rattle.std.specs.Prelude.{◌≡◌};
 ghost use Rattle.state.specs.Maps.{is_empty};
 ghost use Rattle.state.specs.Records.{Manifest, kind_eq, valid_identity, valid_reference, valid_prior, valid_intent, valid_closure, valid_receipt};

@@ -8,6 +8,8 @@
 //
 // Every length, room and number has 4 bytes. Where 0 is the status, the next image stands from here. Writes a line for each
 // case with the answer given, and `differs` where it is another one or a byte past it changed; then how many were the same.
+#![tactic(auto)]
+
 ghost use Rattle.std.specs.Prelude.{◌≤◌, length};
 
 use libc::{STDIN_FILENO, STDOUT_FILENO};

@@ -1,4 +1,6 @@
 // Requests and tokens, read by place: an action's case holds numbers and where its texts stand in the request.
+#![tactic(auto)]
+
 ghost use Rattle.std.specs.Prelude.{◌≡◌, ◌<◌, ◌/◌, ◌%◌, take, drop, eqb};
 ghost use Rattle.parts.specs.Digits.{value};
 ghost use Rattle.fields.specs.Format.{kind, option};

@@ -1,4 +1,6 @@
 // Keys of a set that are ids of rows of a table: what a publication or a lease names and a reservation holds.
+#![tactic(auto)]
+
 ghost use Rattle.std.specs.Prelude.{◌≡◌, not, ◌&&◌, drop};
 ghost use Rattle.state.specs.Maps.{any};
 ghost use Rattle.fields.specs.Codes.{codes_of};

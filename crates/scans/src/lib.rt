@@ -1,4 +1,6 @@
 // Whether a key is in use: what the rows of intents, leases and jobs name, row by row.
+#![tactic(auto)]
+
 ghost use Rattle.std.specs.Prelude.{◌≡◌, drop};
 ghost use Rattle.state.specs.Maps.{any};
 ghost use Rattle.fields.specs.Codes.{codes, codes_of};

@@ -1,4 +1,6 @@
 // Sets of keys as they are stored, looked at where they stand: one count byte, then so many texts.
+#![tactic(auto)]
+
 ghost use Rattle.std.specs.Prelude.{◌≡◌, drop};
 ghost use Rattle.state.specs.Maps.{all, contains, starts_with};
 ghost use Rattle.state.specs.Records.{named};

@@ -1,1 +1,2 @@
 // Definitions only: maps over texts, the Rust's records and the state.
+#![tactic(auto)]

@@ -1,4 +1,6 @@
 // Records and tables of bytes that were checked before: hops by length bytes, lookup by id.
+#![tactic(auto)]
+
 ghost use Rattle.std.specs.Prelude.{◌≡◌, ◌+◌, ◌-◌, ◌≤◌, ◌<◌, length, take, drop};
 ghost use Rattle.fields.specs.Codes.{hop, hops, hop_set, absent_codes, past, passed, skip, code_of, codes_of};
 ghost use Rattle.fields.specs.Walks.{place_of};

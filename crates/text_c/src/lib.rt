@@ -1,5 +1,7 @@
 // The functions of `text` for a C or a Rust program to call, as the benchmark in bench/ does. A slice is passed as a pointer
 // and a length.
+#![tactic(auto)]
+
 ghost use Rattle.std.specs.Prelude.{◌≡◌};
 ghost use Rattle.text.specs.Same.{same_of, prefix_of, ends_with_of, sha256_of};
 ghost use Rattle.text.specs.Utf8.{utf8};

@@ -11,6 +11,8 @@
 //   e TEXT B      ends_with_byte
 //
 // Any other line is written as it is.
+#![tactic(auto)]
+
 ghost use Rattle.std.specs.Prelude.{◌≤◌, ◌*◌, length};
 
 use libc::STDOUT_FILENO;

@@ -1,4 +1,6 @@
 // `apply`: an image and a request, of any bytes, to the next image and the outcome.
+#![tactic(auto)]
+
 ghost use Rattle.std.specs.Prelude.{◌≡◌, length};
 ghost use Rattle.parts.specs.Answer.{Gave, applied_of, image_of, outcome_of};
 ghost use Rattle.parts.specs.Over.{over};

@@ -1,4 +1,6 @@
 // Whether a lease token is the active one of an image.
+#![tactic(auto)]
+
 ghost use Rattle.std.specs.Prelude.{◌≡◌};
 ghost use Rattle.entries.specs.Bytes.{validate_bytes};
 ghost use Rattle.validation.specs.Validation.{ReadyToken};

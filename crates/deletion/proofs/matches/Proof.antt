@@ -1,4 +1,4 @@
-use borrow.Author.Tests.{not_false, not-true}
+use borrow.Author.Tests.{not-false, not-true}
 use mathlib.Core.Path.{sym, ◌∙◌}
 use Rattle.deletion.proofs.Steps.{plan_told, match_exact, match_strict, match_plan, match_key}
 use borrow.Author.Rules.{rules}
@@ -30,7 +30,7 @@ same-requires-2 : tie.Need-same-requires-2
 same-requires-2 c κs = search rules
 
 returns-3 : tie.Need-returns-3
-returns-3 c = match_plan c.before.before.before.before.before.before.before.before.before.before.before.before.args.by-plan-key-only c.before.before.before.before.before.before.before.before.before.before.before.before.args.row.now c.before.before.before.before.before.before.before.before.before.before.before.before.args.shown.now c.before.before.before.before.before.before.before.before.before.before.before.before.args.plan.now c.before.before.before.before.before.before.before.before.before.before.before.before.args.key.now (sym c.before.before.before.before.before.before.before.same.ensures ∙ c.before.before.before.before.before.before.if1.false) (not_false _ c.before.before.before.before.before.if2.false) (plan_told c.before.before.before.before.before.before.before.before.before.before.before.before.args.by-plan-key-only c.before.before.before.before.before.before.before.before.before.before.before.before.args.row.now c.before.before.before.before.before.before.before.before.before.before.before.before.args.shown.now c.before.before.before.before.before.before.before.before.before.before.before.before.args.plan.now c.before.before.before.before.before.before.before.before.before.before.before.before.args.key.now _ _ _ c.before.before.before.skip-record.ensures c.before.before.text_at.ensures c.before.same2.ensures ∙ not-true _ c.if3.true)
+returns-3 c = match_plan c.before.before.before.before.before.before.before.before.before.before.before.before.args.by-plan-key-only c.before.before.before.before.before.before.before.before.before.before.before.before.args.row.now c.before.before.before.before.before.before.before.before.before.before.before.before.args.shown.now c.before.before.before.before.before.before.before.before.before.before.before.before.args.plan.now c.before.before.before.before.before.before.before.before.before.before.before.before.args.key.now (sym c.before.before.before.before.before.before.before.same.ensures ∙ c.before.before.before.before.before.before.if1.false) (not-false _ c.before.before.before.before.before.if2.false) (plan_told c.before.before.before.before.before.before.before.before.before.before.before.before.args.by-plan-key-only c.before.before.before.before.before.before.before.before.before.before.before.before.args.row.now c.before.before.before.before.before.before.before.before.before.before.before.before.args.shown.now c.before.before.before.before.before.before.before.before.before.before.before.before.args.plan.now c.before.before.before.before.before.before.before.before.before.before.before.before.args.key.now _ _ _ c.before.before.before.skip-record.ensures c.before.before.text_at.ensures c.before.same2.ensures ∙ not-true _ c.if3.true)
 
 text-at-requires-2 : tie.Need-text-at-requires-2
 text-at-requires-2 c κs = search rules
@@ -39,7 +39,7 @@ same-requires-3 : tie.Need-same-requires-3
 same-requires-3 c κs = search rules
 
 returns-4 : tie.Need-returns-4
-returns-4 c = match_key c.before.before.before.before.before.before.before.before.before.before.before.before.before.before.args.by-plan-key-only c.before.before.before.before.before.before.before.before.before.before.before.before.before.before.args.row.now c.before.before.before.before.before.before.before.before.before.before.before.before.before.before.args.shown.now c.before.before.before.before.before.before.before.before.before.before.before.before.before.before.args.plan.now c.before.before.before.before.before.before.before.before.before.before.before.before.before.before.args.key.now (sym c.before.before.before.before.before.before.before.before.before.same.ensures ∙ c.before.before.before.before.before.before.before.before.if1.false) (not_false _ c.before.before.before.before.before.before.before.if2.false) (plan_told c.before.before.before.before.before.before.before.before.before.before.before.before.before.before.args.by-plan-key-only c.before.before.before.before.before.before.before.before.before.before.before.before.before.before.args.row.now c.before.before.before.before.before.before.before.before.before.before.before.before.before.before.args.shown.now c.before.before.before.before.before.before.before.before.before.before.before.before.before.before.args.plan.now c.before.before.before.before.before.before.before.before.before.before.before.before.before.before.args.key.now _ _ _ c.before.before.before.before.before.skip-record.ensures c.before.before.before.before.text_at.ensures c.before.before.before.same2.ensures ∙ not_false _ c.before.before.if3.false) _ _ c.before.text-at2.ensures c.same3.ensures
+returns-4 c = match_key c.before.before.before.before.before.before.before.before.before.before.before.before.before.before.args.by-plan-key-only c.before.before.before.before.before.before.before.before.before.before.before.before.before.before.args.row.now c.before.before.before.before.before.before.before.before.before.before.before.before.before.before.args.shown.now c.before.before.before.before.before.before.before.before.before.before.before.before.before.before.args.plan.now c.before.before.before.before.before.before.before.before.before.before.before.before.before.before.args.key.now (sym c.before.before.before.before.before.before.before.before.before.same.ensures ∙ c.before.before.before.before.before.before.before.before.if1.false) (not-false _ c.before.before.before.before.before.before.before.if2.false) (plan_told c.before.before.before.before.before.before.before.before.before.before.before.before.before.before.args.by-plan-key-only c.before.before.before.before.before.before.before.before.before.before.before.before.before.before.args.row.now c.before.before.before.before.before.before.before.before.before.before.before.before.before.before.args.shown.now c.before.before.before.before.before.before.before.before.before.before.before.before.before.before.args.plan.now c.before.before.before.before.before.before.before.before.before.before.before.before.before.before.args.key.now _ _ _ c.before.before.before.before.before.skip-record.ensures c.before.before.before.before.text_at.ensures c.before.before.before.same2.ensures ∙ not-false _ c.before.before.if3.false) _ _ c.before.text-at2.ensures c.same3.ensures
 
 pub matches-spec : {M : Type 1} → statement M
 matches-spec =

@@ -1,6 +1,6 @@
 use Prim.Native.Nat.{ℕ, ◌≤◌, ◌-◌, ◌+◌, zero-le}
 use native.Mathlib.Nat.{le_refl, sub-zero}
-use borrow.Author.Tests.{not-true, not_false}
+use borrow.Author.Tests.{not-true, not-false}
 use Rattle.fields.specs.Format.{read_text, ok}
 use Rattle.fields.specs.Walks.{walk_of, part}
 use Rattle.fields.specs.declared.Walk.TheVariants.{End}
@@ -77,7 +77,7 @@ loop-less : tie.Need-loop-smaller invariant-loop decreases-loop
 loop-less c = omega arith
 
 loop-again : tie.Need-loop-preserved invariant-loop decreases-loop
-loop-again c = (omega arith, (got c.before.before.before.before).2, (got c.before.before.before.before).1, (got c.before.before.before.before).2, c.before.before.before.before.before.before.before.before.before.loop.invariant.4 ∙ texts_more _ _ _ _ _ _ _ c.before.before.before.before.before.before.before.before.loop-test.true c.before.before.before.before.before.before.before.before.before.loop.invariant.1 (found c.before.before.before.before) (sym c.before.follows.ensures ∙ not_false _ c.if1.false))
+loop-again c = (omega arith, (got c.before.before.before.before).2, (got c.before.before.before.before).1, (got c.before.before.before.before).2, c.before.before.before.before.before.before.before.before.before.loop.invariant.4 ∙ texts_more _ _ _ _ _ _ _ c.before.before.before.before.before.before.before.before.loop-test.true c.before.before.before.before.before.before.before.before.before.loop.invariant.1 (found c.before.before.before.before) (sym c.before.follows.ensures ∙ not-false _ c.if1.false))
 
 returns-3 : tie.Need-returns-3 invariant-loop decreases-loop
 returns-3 c = sym (c.before.loop.invariant.4 ∙ texts_none _ _ _ 0 _ _ _ c.before.loop.invariant.1 c.loop-test.false)

@@ -3,7 +3,7 @@ use mathlib.Core.Path.{◌≡◌, sym, ◌∙◌, ap}
 use mathlib.Core.Option.{none}
 use native.Mathlib.Omega.{arith}
 use native.Mathlib.Nat.{sub-zero}
-use borrow.Author.Tests.{not-true, not_false}
+use borrow.Author.Tests.{not-true, not-false}
 use lib.ListN.{length, drop}
 use Rattle.fields.specs.Codes.{codes_of}
 use Rattle.fields.specs.Walks.{walk_of, drop-within}
@@ -56,7 +56,7 @@ loop-less : tie.Need-loop-smaller invariant-loop decreases-loop
 loop-less c = omega arith
 
 loop-again : tie.Need-loop-preserved invariant-loop decreases-loop
-loop-again c = (omega arith, (row-ended (codes_of c.before.before.before.before.before.before.before.before.before.before.before.before.before.args.codes.now) c.before.before.before.before.before.before.before.before.before.before.before.before.before.args.s.now c.before.before.before.before.before.before.before.before.before.loop.p c.before.before.before.before.before.before.before.before.before.before.before.before.before.args.n c.before.before.before.before.before.before.before.before.before.loop.i none _ c.before.before.before.before.before.before.before.before.loop-test.true c.before.before.before.before.before.before.before.before.before.loop.invariant.1 (sym c.before.before.before.before.before.before.before.walk-record.ensures ∙ c.before.before.before.before.before.w.given.1)).high, c.before.before.before.before.before.before.before.before.before.loop.invariant.2 ∙ rows_more (codes_of c.before.before.before.before.before.before.before.before.before.before.before.before.before.args.codes.now) c.before.before.before.before.before.before.before.before.before.before.before.before.before.args.s.now c.before.before.before.before.before.before.before.before.before.loop.p c.before.before.before.before.before.before.before.before.before.before.before.before.before.args.n c.before.before.before.before.before.before.before.before.before.loop.i _ _ c.before.before.before.before.before.before.before.before.loop-test.true c.before.before.before.before.before.before.before.before.before.loop.invariant.1 (sym c.before.before.before.before.before.before.before.walk-record.ensures ∙ c.before.before.before.before.before.w.given.1) (rows_follow c.before.before.before.before.before.before.before.before.before.before.before.before.before.args.s.now c.before.before.before.before.before.before.before.before.before.loop.i c.before.before.before.before.before.before.before.before.before.loop.prev c.before.before.before.before.before.before.before.before.before.loop.p _ _ _ c.before.follows.ensures c.before.before.before.text_at.ensures c.before.before.text-at2.ensures ∙ not_false _ c.if1.false))
+loop-again c = (omega arith, (row-ended (codes_of c.before.before.before.before.before.before.before.before.before.before.before.before.before.args.codes.now) c.before.before.before.before.before.before.before.before.before.before.before.before.before.args.s.now c.before.before.before.before.before.before.before.before.before.loop.p c.before.before.before.before.before.before.before.before.before.before.before.before.before.args.n c.before.before.before.before.before.before.before.before.before.loop.i none _ c.before.before.before.before.before.before.before.before.loop-test.true c.before.before.before.before.before.before.before.before.before.loop.invariant.1 (sym c.before.before.before.before.before.before.before.walk-record.ensures ∙ c.before.before.before.before.before.w.given.1)).high, c.before.before.before.before.before.before.before.before.before.loop.invariant.2 ∙ rows_more (codes_of c.before.before.before.before.before.before.before.before.before.before.before.before.before.args.codes.now) c.before.before.before.before.before.before.before.before.before.before.before.before.before.args.s.now c.before.before.before.before.before.before.before.before.before.loop.p c.before.before.before.before.before.before.before.before.before.before.before.before.before.args.n c.before.before.before.before.before.before.before.before.before.loop.i _ _ c.before.before.before.before.before.before.before.before.loop-test.true c.before.before.before.before.before.before.before.before.before.loop.invariant.1 (sym c.before.before.before.before.before.before.before.walk-record.ensures ∙ c.before.before.before.before.before.w.given.1) (rows_follow c.before.before.before.before.before.before.before.before.before.before.before.before.before.args.s.now c.before.before.before.before.before.before.before.before.before.loop.i c.before.before.before.before.before.before.before.before.before.loop.prev c.before.before.before.before.before.before.before.before.before.loop.p _ _ _ c.before.follows.ensures c.before.before.before.text_at.ensures c.before.before.text-at2.ensures ∙ not-false _ c.if1.false))
 
 returns-3 : tie.Need-returns-3 invariant-loop decreases-loop
 returns-3 c = sym (ap (walk_of c.before.before.before.before.before.args.s.now) c.before.loop.invariant.2 ∙ rows_none (codes_of c.before.before.before.before.before.args.codes.now) c.before.before.before.before.before.args.s.now c.before.loop.p c.before.before.before.before.before.args.n c.before.loop.i _ c.before.loop.invariant.1 c.loop-test.false)

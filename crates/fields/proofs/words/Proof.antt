@@ -1,5 +1,5 @@
 use mathlib.Core.Path.{sym, ◌∙◌}
-use borrow.Author.Tests.{not-true, not_false}
+use borrow.Author.Tests.{not-true, not-false}
 use Rattle.fields.proofs.WalkSteps.{text-short, text-over, text_cut, text_not_utf8, text-end}
 use borrow.Author.Rules.{rules}
 use Rattle.fields.proofs.words.Statement.{statement}
@@ -51,7 +51,7 @@ add-t6 : tie.Need-overflow-add-t6
 add-t6 c = search rules
 
 returns-5 : tie.Need-returns-5
-returns-5 c = sym (text-end _ _ _ c.before.before.before.before.before.before.before.if1.false c.before.before.before.before.before.if2.false c.before.before.before.if3.false (sym c.before.is-utf8.ensures ∙ not_false _ c.if4.false))
+returns-5 c = sym (text-end _ _ _ c.before.before.before.before.before.before.before.if1.false c.before.before.before.before.before.if2.false c.before.before.before.if3.false (sym c.before.is-utf8.ensures ∙ not-false _ c.if4.false))
 
 pub words-spec : {M : Type 1} → statement M
 words-spec =

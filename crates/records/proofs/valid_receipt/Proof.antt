@@ -1,5 +1,5 @@
 use mathlib.Core.Path.{sym, ◌∙◌}
-use borrow.Author.Tests.{not-true, not_false}
+use borrow.Author.Tests.{not-true, not-false}
 use Rattle.state.specs.Records.{valid_receipt}
 use Rattle.records.proofs.Steps.{stop, pass, ends, has_told, begins-told}
 use borrow.Author.Rules.{rules}
@@ -18,7 +18,7 @@ valid-reference-requires c κs = search rules
 
 returns-2 : tie.Need-returns-2
 unfolding valid_receipt
-returns-2 c = stop _ _ (sym c.before.valid_reference.ensures ∙ not-true _ c.if2.true) ∙ pass _ _ (sym c.before.before.before.is_manifest.ensures ∙ not_false _ c.before.before.if1.false)
+returns-2 c = stop _ _ (sym c.before.valid_reference.ensures ∙ not-true _ c.if2.true) ∙ pass _ _ (sym c.before.before.before.is_manifest.ensures ∙ not-false _ c.before.before.if1.false)
 
 clip-requires : tie.Need-clip-requires
 clip-requires c κs = search rules
@@ -28,7 +28,7 @@ set-has-requires c κs = search rules
 
 returns-3 : tie.Need-returns-3
 unfolding valid_receipt
-returns-3 c = stop _ _ (has_told _ _ _ _ c.before.set-has.ensures c.before.before.clip.ensures ∙ not-true _ c.if3.true) ∙ pass _ _ (sym c.before.before.before.before.valid_reference.ensures ∙ not_false _ c.before.before.before.if2.false) ∙ pass _ _ (sym c.before.before.before.before.before.before.is_manifest.ensures ∙ not_false _ c.before.before.before.before.before.if1.false)
+returns-3 c = stop _ _ (has_told _ _ _ _ c.before.set-has.ensures c.before.before.clip.ensures ∙ not-true _ c.if3.true) ∙ pass _ _ (sym c.before.before.before.before.valid_reference.ensures ∙ not-false _ c.before.before.before.if2.false) ∙ pass _ _ (sym c.before.before.before.before.before.before.is_manifest.ensures ∙ not-false _ c.before.before.before.before.before.if1.false)
 
 clip-requires-2 : tie.Need-clip-requires-2
 clip-requires-2 c κs = search rules
@@ -38,7 +38,7 @@ set-begins-requires c κs = search rules
 
 returns-4 : tie.Need-returns-4
 unfolding valid_receipt
-returns-4 c = ends _ _ (begins-told _ _ _ _ c.set-begins.ensures c.before.clip2.ensures) ∙ pass _ _ (has_told _ _ _ _ c.before.before.before.set-has.ensures c.before.before.before.before.clip.ensures ∙ not_false _ c.before.before.if3.false) ∙ pass _ _ (sym c.before.before.before.before.before.before.valid_reference.ensures ∙ not_false _ c.before.before.before.before.before.if2.false) ∙ pass _ _ (sym c.before.before.before.before.before.before.before.before.is_manifest.ensures ∙ not_false _ c.before.before.before.before.before.before.before.if1.false)
+returns-4 c = ends _ _ (begins-told _ _ _ _ c.set-begins.ensures c.before.clip2.ensures) ∙ pass _ _ (has_told _ _ _ _ c.before.before.before.set-has.ensures c.before.before.before.before.clip.ensures ∙ not-false _ c.before.before.if3.false) ∙ pass _ _ (sym c.before.before.before.before.before.before.valid_reference.ensures ∙ not-false _ c.before.before.before.before.before.if2.false) ∙ pass _ _ (sym c.before.before.before.before.before.before.before.before.is_manifest.ensures ∙ not-false _ c.before.before.before.before.before.before.before.if1.false)
 
 pub valid-receipt-spec : {M : Type 1} → statement M
 valid-receipt-spec =

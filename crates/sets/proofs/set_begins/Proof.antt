@@ -3,7 +3,7 @@ use native.Mathlib.Omega.{arith}
 use Prim.Native.Nat.{◌-◌}
 use mathlib.Core.Path.{◌≡◌, sym, ap, ◌∙◌}
 use lib.ListN.{drop}
-use borrow.Author.Tests.{not-true, not_false}
+use borrow.Author.Tests.{not-true, not-false}
 use Rattle.text.specs.Same.{prefix_of}
 use Rattle.state.specs.Maps.{all}
 use Rattle.sets.specs.Sets.{texts_of, set_of}
@@ -48,7 +48,7 @@ loop-less : tie.Need-loop-smaller invariant-loop decreases-loop
 loop-less c = search rules
 
 loop-again : tie.Need-loop-preserved invariant-loop decreases-loop
-loop-again c = c.before.before.before.before.before.loop.invariant ∙ all-next (prefix_of c.before.before.before.before.before.before.before.before.before.before.args.prefix.now) c.before.before.before.before.before.before.before.before.before.before.args.s.now _ c.before.before.before.before.before.loop.i c.before.before.before.before.before.loop.p c.before.before.before.before.loop-test.true _ c.after_text.ensures (told (prefix_of c.before.before.before.before.before.before.before.before.before.before.args.prefix.now) _ _ _ _ c.before.before.starts_with.ensures c.before.before.before.text_at.ensures (not_false _ c.before.if2.false))
+loop-again c = c.before.before.before.before.before.loop.invariant ∙ all-next (prefix_of c.before.before.before.before.before.before.before.before.before.before.args.prefix.now) c.before.before.before.before.before.before.before.before.before.before.args.s.now _ c.before.before.before.before.before.loop.i c.before.before.before.before.before.loop.p c.before.before.before.before.loop-test.true _ c.after_text.ensures (told (prefix_of c.before.before.before.before.before.before.before.before.before.before.args.prefix.now) _ _ _ _ c.before.before.starts_with.ensures c.before.before.before.text_at.ensures (not-false _ c.before.if2.false))
 
 returns-3 : tie.Need-returns-3 invariant-loop decreases-loop
 returns-3 c = sym (c.before.loop.invariant ∙ all_none (prefix_of c.before.before.before.before.before.before.args.prefix.now) c.before.before.before.before.before.before.args.s.now _ c.before.loop.i c.before.loop.p c.loop-test.false)

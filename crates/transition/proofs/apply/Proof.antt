@@ -1,6 +1,6 @@
 use native.Mathlib.Omega.{arith}
 use mathlib.Core.Path.{sym, ap, ◌∙◌}
-use borrow.Author.Tests.{not-true, not_false}
+use borrow.Author.Tests.{not-true, not-false}
 use Rattle.image.specs.OpenedLaws.{opened_as, not_opened}
 use Rattle.requests.specs.Meaning.{parsed_of}
 use Rattle.transition.specs.Asked.{asked_of, no-image, no-request}
@@ -30,10 +30,10 @@ enum-known-p-2 : tie.Need-enum-known-p-2
 enum-known-p-2 c = search rules
 
 apply-request-requires : tie.Need-apply-request-requires
-apply-request-requires c κs = let a = c.before.before.before.before.before.before.before.before.before.before.before.before.before.before.args in asked_of a.image.now a.request.now _ _ (opened_as a.image.now _ c.before.before.before.before.before.before.before.before.before.«open».ensures (λ i. omega (arith, c.before.before.before.before.before.before.before.before.before.before.before.before.before.shared-slice-known.given i)) (not_false _ c.before.before.before.before.before.before.before.if1.false)) (λ i. omega (arith, c.before.before.before.before.before.before.before.before.before.before.before.before.shared-slice-known2.given i)) (ap (parsed_of a.request.now) (sym c.before.before.before.p2.given.1) ∙ c.before.before.before.before.before.parse.ensures.0) (sym c.before.before.before.p2.given.1 ∙ c.before.before.before.before.before.parse.ensures.1)
+apply-request-requires c κs = let a = c.before.before.before.before.before.before.before.before.before.before.before.before.before.before.args in asked_of a.image.now a.request.now _ _ (opened_as a.image.now _ c.before.before.before.before.before.before.before.before.before.«open».ensures (λ i. omega (arith, c.before.before.before.before.before.before.before.before.before.before.before.before.before.shared-slice-known.given i)) (not-false _ c.before.before.before.before.before.before.before.if1.false)) (λ i. omega (arith, c.before.before.before.before.before.before.before.before.before.before.before.before.shared-slice-known2.given i)) (ap (parsed_of a.request.now) (sym c.before.before.before.p2.given.1) ∙ c.before.before.before.before.before.parse.ensures.0) (sym c.before.before.before.p2.given.1 ∙ c.before.before.before.before.before.parse.ensures.1)
 
 returns-2 : tie.Need-returns-2
-returns-2 c = let a = c.before.before.before.before.before.before.before.before.before.before.before.before.before.args in let g = no-request a.image.now a.request.now _ _ (opened_as a.image.now _ c.before.before.before.before.before.before.before.before.«open».ensures (λ i. omega (arith, c.before.before.before.before.before.before.before.before.before.before.before.before.shared-slice-known.given i)) (not_false _ c.before.before.before.before.before.before.if1.false)).reads (sym (ap (parsed_of a.request.now) (sym c.before.before.p.given.1) ∙ c.before.before.before.before.parse.ensures.0)) c.refuse2.ensures in (g.answer, (g.image, g.outcome))
+returns-2 c = let a = c.before.before.before.before.before.before.before.before.before.before.before.before.before.args in let g = no-request a.image.now a.request.now _ _ (opened_as a.image.now _ c.before.before.before.before.before.before.before.before.«open».ensures (λ i. omega (arith, c.before.before.before.before.before.before.before.before.before.before.before.before.shared-slice-known.given i)) (not-false _ c.before.before.before.before.before.before.if1.false)).reads (sym (ap (parsed_of a.request.now) (sym c.before.before.p.given.1) ∙ c.before.before.before.before.parse.ensures.0)) c.refuse2.ensures in (g.answer, (g.image, g.outcome))
 
 same_length : tie.Need-same-length
 same_length c = search rules

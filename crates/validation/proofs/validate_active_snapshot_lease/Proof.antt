@@ -1,6 +1,6 @@
 use native.Mathlib.Omega.{arith}
 use mathlib.Core.Path.{sym, ap, ◌∙◌}
-use borrow.Author.Tests.{not-true, not_false}
+use borrow.Author.Tests.{not-true, not-false}
 use Rattle.image.specs.OpenedLaws.{OpenedAs, opened_as, not_opened}
 use Rattle.requests.specs.Meaning.{token_read_of}
 use Rattle.validation.specs.Validation.{ready-token, not_an_image, not_a_token}
@@ -35,11 +35,11 @@ enum-known-p-2 c = search rules
 
 -- src/lib.rt:45:34
 validate-opened-requires : tie.Need-validate-opened-requires
-validate-opened-requires c κs = ready-token c.before.before.before.before.before.before.before.before.before.before.args.image.now c.before.before.before.before.before.before.before.before.before.before.args.token.now _ _ (opened_as c.before.before.before.before.before.before.before.before.before.before.args.image.now _ c.before.before.before.before.before.before.before.«open».ensures (λ i. omega (arith, c.before.before.before.before.before.before.before.before.before.shared-slice-known.given i)) (not_false _ c.before.before.before.before.before.if1.false)) (λ i. omega (arith, c.before.before.before.before.before.before.before.before.shared-slice-known2.given i)) (ap (token_read_of c.before.before.before.before.before.before.before.before.before.before.args.token.now) (sym c.before.p2.given.1) ∙ c.before.before.before.parse-token.ensures.0)
+validate-opened-requires c κs = ready-token c.before.before.before.before.before.before.before.before.before.before.args.image.now c.before.before.before.before.before.before.before.before.before.before.args.token.now _ _ (opened_as c.before.before.before.before.before.before.before.before.before.before.args.image.now _ c.before.before.before.before.before.before.before.«open».ensures (λ i. omega (arith, c.before.before.before.before.before.before.before.before.before.shared-slice-known.given i)) (not-false _ c.before.before.before.before.before.if1.false)) (λ i. omega (arith, c.before.before.before.before.before.before.before.before.shared-slice-known2.given i)) (ap (token_read_of c.before.before.before.before.before.before.before.before.before.before.args.token.now) (sym c.before.p2.given.1) ∙ c.before.before.before.parse-token.ensures.0)
 
 -- src/lib.rt:34:1
 returns-2 : tie.Need-returns-2
-returns-2 c = not_a_token c.before.before.before.before.before.before.before.before.before.before.args.image.now c.before.before.before.before.before.before.before.before.before.before.args.token.now _ _ (opened_as c.before.before.before.before.before.before.before.before.before.before.args.image.now _ c.before.before.before.before.before.before.before.«open».ensures (λ i. omega (arith, c.before.before.before.before.before.before.before.before.before.shared-slice-known.given i)) (not_false _ c.before.before.before.before.before.if1.false)).reads (sym (ap (token_read_of c.before.before.before.before.before.before.before.before.before.before.args.token.now) (sym c.before.p.given.1) ∙ c.before.before.before.parse-token.ensures.0))
+returns-2 c = not_a_token c.before.before.before.before.before.before.before.before.before.before.args.image.now c.before.before.before.before.before.before.before.before.before.before.args.token.now _ _ (opened_as c.before.before.before.before.before.before.before.before.before.before.args.image.now _ c.before.before.before.before.before.before.before.«open».ensures (λ i. omega (arith, c.before.before.before.before.before.before.before.before.before.shared-slice-known.given i)) (not-false _ c.before.before.before.before.before.if1.false)).reads (sym (ap (token_read_of c.before.before.before.before.before.before.before.before.before.before.args.token.now) (sym c.before.p.given.1) ∙ c.before.before.before.parse-token.ensures.0))
 
 -- src/lib.rt:34:1
 returns-3 : tie.Need-returns-3

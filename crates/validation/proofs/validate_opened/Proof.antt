@@ -2,7 +2,7 @@ use Prim.Native.Nat.{ℕ}
 use mathlib.Core.Path.{sym, ap, ◌∙◌}
 use mathlib.Core.List.{List}
 use lib.ListN.{drop}
-use borrow.Author.Tests.{not-true, not_false}
+use borrow.Author.Tests.{not-true, not-false}
 use Rattle.fields.specs.Codes.{codes_of, shape}
 use Rattle.tables.specs.Seek.{seek, row_of}
 use Rattle.image.specs.Layout.{leases}
@@ -52,11 +52,11 @@ returns-3 c = differs c.before.before.before.before.before.before.before.before.
 
 -- src/lib.rt:29:9
 returns-4 : tie.Need-returns-4
-returns-4 c = expired c.before.before.before.before.before.before.before.before.before.before.before.before.before.before.before.before.requires c.before.before.before.before.before.before.before.before.before.before.before.before.if1.false _ (c.before.before.before.before.before.before.find.ensures ∙ ap (λ (id : List ℕ). row_of (seek (codes_of (shape lease)) (table_in leases c.before.before.before.before.before.before.before.before.before.before.before.before.before.before.before.before.args.c).count id (drop (table_in leases c.before.before.before.before.before.before.before.before.before.before.before.before.before.before.before.before.args.c).at c.before.before.before.before.before.before.before.before.before.before.before.before.before.before.before.before.args.image.now))) c.before.before.before.before.before.before.before.before.clip.ensures) c.before.before.before.before.before.if2.false (sym c.before.before.before.before.same.ensures ∙ not_false _ c.before.before.before.if3.false) c.if4.true
+returns-4 c = expired c.before.before.before.before.before.before.before.before.before.before.before.before.before.before.before.before.requires c.before.before.before.before.before.before.before.before.before.before.before.before.if1.false _ (c.before.before.before.before.before.before.find.ensures ∙ ap (λ (id : List ℕ). row_of (seek (codes_of (shape lease)) (table_in leases c.before.before.before.before.before.before.before.before.before.before.before.before.before.before.before.before.args.c).count id (drop (table_in leases c.before.before.before.before.before.before.before.before.before.before.before.before.before.before.before.before.args.c).at c.before.before.before.before.before.before.before.before.before.before.before.before.before.before.before.before.args.image.now))) c.before.before.before.before.before.before.before.before.clip.ensures) c.before.before.before.before.before.if2.false (sym c.before.before.before.before.same.ensures ∙ not-false _ c.before.before.before.if3.false) c.if4.true
 
 -- src/lib.rt:10:1
 returns-5 : tie.Need-returns-5
-returns-5 c = active c.before.before.before.before.before.before.before.before.before.before.before.before.before.before.before.before.requires c.before.before.before.before.before.before.before.before.before.before.before.before.if1.false _ (c.before.before.before.before.before.before.find.ensures ∙ ap (λ (id : List ℕ). row_of (seek (codes_of (shape lease)) (table_in leases c.before.before.before.before.before.before.before.before.before.before.before.before.before.before.before.before.args.c).count id (drop (table_in leases c.before.before.before.before.before.before.before.before.before.before.before.before.before.before.before.before.args.c).at c.before.before.before.before.before.before.before.before.before.before.before.before.before.before.before.before.args.image.now))) c.before.before.before.before.before.before.before.before.clip.ensures) c.before.before.before.before.before.if2.false (sym c.before.before.before.before.same.ensures ∙ not_false _ c.before.before.before.if3.false) c.if4.false
+returns-5 c = active c.before.before.before.before.before.before.before.before.before.before.before.before.before.before.before.before.requires c.before.before.before.before.before.before.before.before.before.before.before.before.if1.false _ (c.before.before.before.before.before.before.find.ensures ∙ ap (λ (id : List ℕ). row_of (seek (codes_of (shape lease)) (table_in leases c.before.before.before.before.before.before.before.before.before.before.before.before.before.before.before.before.args.c).count id (drop (table_in leases c.before.before.before.before.before.before.before.before.before.before.before.before.before.before.before.before.args.c).at c.before.before.before.before.before.before.before.before.before.before.before.before.before.before.before.before.args.image.now))) c.before.before.before.before.before.before.before.before.clip.ensures) c.before.before.before.before.before.if2.false (sym c.before.before.before.before.same.ensures ∙ not-false _ c.before.before.before.if3.false) c.if4.false
 
 pub validate-opened-spec : {M : Type 1} → statement M
 validate-opened-spec =

@@ -1,0 +1,15 @@
+-- The ways that the tests of the three bytes go.
+use mathlib.Core.Path.{sym, ◌∙◌}
+use Rattle.text.proofs.four.Goals as goal
+
+pub returns-then-not-byte_in : goal.returns-then-not-byte_in
+returns-then-not-byte_in c = simp (sym c.byte_in.ensures ∙ c.if-not-byte_in.true)
+
+pub returns-then-not-byte_in-2 : goal.returns-then-not-byte_in-2
+returns-then-not-byte_in-2 c = simp (sym c.byte_in.ensures ∙ c.if-not-byte_in.false, sym c.byte_in-2.ensures ∙ c.if-not-byte_in-2.true)
+
+pub returns-then-byte_in : goal.returns-then-byte_in
+returns-then-byte_in c = simp (sym c.byte_in.ensures ∙ c.if-not-byte_in.false, sym c.byte_in-2.ensures ∙ c.if-not-byte_in-2.false, sym c.byte_in-3.ensures ∙ c.if-byte_in.true)
+
+pub returns-else-byte_in : goal.returns-else-byte_in
+returns-else-byte_in c = simp (sym c.byte_in.ensures ∙ c.if-not-byte_in.false, sym c.byte_in-2.ensures ∙ c.if-not-byte_in-2.false, sym c.byte_in-3.ensures ∙ c.if-byte_in.false)
