@@ -338,6 +338,7 @@ one_form b r q w v = same_read forms forms_sound forms_apart b r q w v
 -- and what it lacks is empty.
 pub within-written : (f : Form) (s : State) → In f forms → FormedIn f s → Formed s
 within-written f s here k = k.fitting
+within-written f s (there x) k = elim x [ ]
 
 state_some : (o : Option Read) (s : State) → state_read o ≡ some s → (r : Read) × (o ≡ some r) × (r.state ≡ s)
 state_some none s h = let z : ◌≡◌ {A = ℕ} 0 1 = cc in absurd (omega arith)

@@ -16,7 +16,7 @@ use Rattle.state.specs.Maps.{Text}
 use Rattle.state.specs.Records.{State}
 use Rattle.fields.specs.Format.{enc_option, enc_text}
 use Rattle.image.specs.Layout.{TableName, Form, forms, first_in, encode_in, Read, read_image, state_read, decode_image, Formed}
-use Rattle.image.specs.LayoutLaws.{In, here, one-image, within-written}
+use Rattle.image.specs.LayoutLaws.{In, here, there, one-image, within-written}
 use Rattle.image.specs.ImageParts.{TableBytes, names, names_in, tables_named, tables_of, joined, numbers_of, before_window, words, scalars_bytes, tables_at, scalars-is, at-scalars, at-tables, length-image, next-at}
 use Rattle.image.specs.Opened.{root_of, laid, contents_in, opened_of, root_flag, root_start, root_width, root_bytes, root_text_of, nowhere, Shows, Holds}
 use Rattle.image.specs.declared.Contents.{Contents}
@@ -132,6 +132,7 @@ pub record OpenedAs (x : List ℕ) (c : Contents) : Type 0 where
 -- every form that is read has all tables
 all-tables : (f : Form) → In f forms → names_in f.tables ≡ names
 all-tables f here = refl
+all-tables f (there x) = elim x [ ]
 
 opened_some : (x : List ℕ) (r : Read) → Bytes x → read_image x ≡ some r → OpenedAs x (contents_in r.form r.state)
 unfolding decode_image

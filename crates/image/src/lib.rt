@@ -237,7 +237,7 @@ fn count_in(s: &[u8], amount: usize, p: usize) -> usize
 }
 
 // A body that was walked from `at` on: a fault where it is not as its entry at p says.
-fn in_place_lem(s: &[u8], p: usize, at: usize, w: Walk) -> Walk
+fn in_place(s: &[u8], p: usize, at: usize, w: Walk) -> Walk
     requires { p + 8 ≤ length s.now }
     ensures { result ≡ in_place s.now p at w }
 {
@@ -261,7 +261,7 @@ fn scalars_end(amount: usize, s: &[u8], p: usize, at: usize) -> Walk
     if count_in(s, amount, p) != 1 {
         return Walk::Fault(MALFORMED);
     }
-    in_place_lem(s, p, at, fields::walk_record(&SCALARS, s, at))
+    in_place(s, p, at, fields::walk_record(&SCALARS, s, at))
 }
 
 // Where n rows of a table end, or the first fault.
@@ -293,12 +293,12 @@ fn table_end(table: usize, amount: usize, most: usize, s: &[u8], p: usize, at: u
 {
     let n = count_in(s, amount, p);
     if n == 0 {
-        return in_place_lem(s, p, at, Walk::End(fields::within(s, at)));
+        return in_place(s, p, at, Walk::End(fields::within(s, at)));
     }
     if most < n {
         return Walk::Fault(OVER_LIMIT);
     }
-    in_place_lem(s, p, at, rows_end(table, s, at, n))
+    in_place(s, p, at, rows_end(table, s, at, n))
 }
 
 // Whether the bytes are an image in a form: one pass over its bodies, each of which starts where the one before it ended.

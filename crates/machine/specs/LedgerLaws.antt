@@ -141,4 +141,4 @@ module _ {leases : Map SnapshotLeaseToken} {e : ℕ} {L : Ledger} where
 pub end_all-linked : {leases : Map SnapshotLeaseToken} {e : ℕ} {L : Ledger} (ids : List Text) → Linked leases e L → Linked (remove_all ids leases) e (end_all ids L)
 unfolding remove_all end_all
 end_all-linked [] k = k
-end_all-linked (id ∷ ids) k = end_all-linked ids (end-linked id k)
+end_all-linked {leases = leases} {e = e} {L = L} (id ∷ ids) k = end_all-linked {leases = remove id leases} {e = e} {L = end id L} ids (end-linked id k)
