@@ -1,0 +1,20 @@
+use mathlib.Core.Path.{sym, ◌∙◌}
+use Rattle.state.specs.Records.{valid_closure}
+use Rattle.records.proofs.Steps.{stop, pass, ends, has_told}
+use Rattle.records.proofs.valid_closure.Goals as goal
+
+pub returns-then-not-is_manifest : goal.returns-then-not-is_manifest
+unfolding valid_closure
+returns-then-not-is_manifest c = stop _ _ (sym c.is_manifest.ensures ∙ c.if-not-is_manifest.true)
+
+pub returns-then-not-valid_reference : goal.returns-then-not-valid_reference
+unfolding valid_closure
+returns-then-not-valid_reference c = stop _ _ (sym c.valid_reference.ensures ∙ c.if-not-valid_reference.true) ∙ pass _ _ (sym c.is_manifest.ensures ∙ c.if-not-is_manifest.false)
+
+pub returns-then-not-set_has : goal.returns-then-not-set_has
+unfolding valid_closure
+returns-then-not-set_has c = stop _ _ (has_told _ _ _ _ c.set_has.ensures c.clip.ensures ∙ c.if-not-set_has.true) ∙ pass _ _ (sym c.valid_reference.ensures ∙ c.if-not-valid_reference.false) ∙ pass _ _ (sym c.is_manifest.ensures ∙ c.if-not-is_manifest.false)
+
+pub returns : goal.returns
+unfolding valid_closure
+returns c = ends _ _ c.set_named.ensures ∙ pass _ _ (has_told _ _ _ _ c.set_has.ensures c.clip.ensures ∙ c.if-not-set_has.false) ∙ pass _ _ (sym c.valid_reference.ensures ∙ c.if-not-valid_reference.false) ∙ pass _ _ (sym c.is_manifest.ensures ∙ c.if-not-is_manifest.false)

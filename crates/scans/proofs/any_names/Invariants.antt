@@ -1,0 +1,14 @@
+use Prim.Native.Nat.{◌≤◌, ◌-◌}
+use mathlib.Core.Path.{◌≡◌}
+use lib.ListN.{drop}
+use Rattle.state.specs.Maps.{any}
+use Rattle.fields.specs.Codes.{codes_of}
+use Rattle.tables.specs.Seek.{rows_at}
+use Rattle.scans.specs.Scans.{names_at}
+use Rattle.scans.proofs.any_names.Given as goal
+
+abbrev pub invariant-loop-i : goal.invariant-loop-i
+invariant-loop-i l = (l.i ≤ l.n) × (any (names_at (codes_of l.hops) l.key) (rows_at (codes_of l.codes) l.n (drop l.at l.s)) ≡ any (names_at (codes_of l.hops) l.key) (rows_at (codes_of l.codes) (l.n - l.i) (drop l.p l.s)))
+
+abbrev pub decreases-loop-i : goal.decreases-loop-i
+decreases-loop-i l = l.n - l.i
