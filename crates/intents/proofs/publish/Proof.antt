@@ -50,7 +50,7 @@ add-m-2 c = let b = name_bounds c.before.before.before.before.before.before.befo
 add-m-3 : tie.Need-overflow-add-m-3
 add-m-3 c =
     let b = name_bounds c.before.before.before.before.before.before.before.before.before.before.before.before.before.before.requires _ c.before.before.clip.ensures _ c.before.clip2.ensures in
-    let g = given_bounds c.before.before.before.before.before.before.before.before.before.before.before.before.before.before.requires _ c.before.before.clip.ensures _ c.before.clip2.ensures _ c.option_place.ensures in
+    let g = given_bounds c.before.before.before.before.before.before.before.before.before.before.before.before.before.before.requires _ c.before.before.clip.ensures _ c.before.clip2.ensures _ c.option_at.ensures in
     omega (arith, b.0, b.1, g.0)
 
 slice-aggregate-locate : tie.Need-slice-aggregate-locate
@@ -90,7 +90,7 @@ returns : tie.Need-returns
 returns c =
     let r = c.before.before.before.before.before.before.before.before.before.before.before.before.before.before.before.before.before.before.before.before.before.before.before.before.before.before.requires in
     refused r c.before.before.publish-refusal.result
-    (publish-refused r _ c.before.before.before.before.before.before.before.before.before.before.before.before.before.before.clip.ensures _ c.before.before.before.before.before.before.before.before.before.before.before.before.before.clip2.ensures _ c.before.before.before.before.before.before.before.before.before.before.before.before.option_place.ensures _ c.before.before.before.before.before.before.before.before.before.before.locate.ensures _ c.before.before.before.before.before.before.before.before.locate2.ensures _ _ _ _ _
+    (publish-refused r _ c.before.before.before.before.before.before.before.before.before.before.before.before.before.before.clip.ensures _ c.before.before.before.before.before.before.before.before.before.before.before.before.before.clip2.ensures _ c.before.before.before.before.before.before.before.before.before.before.before.before.option_at.ensures _ c.before.before.before.before.before.before.before.before.before.before.locate.ensures _ c.before.before.before.before.before.before.before.before.locate2.ensures _ _ _ _ _
     c.before.before.before.before.before.before.before.row.ensures c.before.before.before.before.before.before.clip3.ensures c.before.before.before.before.before.clip4.ensures c.before.before.before.before.clip5.ensures c.before.before.before.row2.ensures _ c.before.before.publish-refusal.ensures c.before.if1.true)
     c.refuse.ensures
 
@@ -98,13 +98,13 @@ less-requires : tie.Need-less-requires
 less-requires c κs = search rules
 
 add-bytes : tie.Need-overflow-add-bytes
-add-bytes c = omega (arith, (publish-room c.before.before.before.before.before.before.before.before.before.before.before.before.before.before.before.before.before.before.before.before.before.before.before.before.before.before.requires _ c.before.before.before.before.before.before.before.before.before.before.before.before.before.before.clip.ensures _ c.before.before.before.before.before.before.before.before.before.before.before.before.before.clip2.ensures _ c.before.before.before.before.before.before.before.before.before.before.before.before.option_place.ensures _ c.before.before.before.before.before.before.before.before.before.before.locate.ensures _ c.before.before.before.before.before.before.before.before.locate2.ensures _ c.less.ensures).2)
+add-bytes c = omega (arith, (publish-room c.before.before.before.before.before.before.before.before.before.before.before.before.before.before.before.before.before.before.before.before.before.before.before.before.before.before.requires _ c.before.before.before.before.before.before.before.before.before.before.before.before.before.before.clip.ensures _ c.before.before.before.before.before.before.before.before.before.before.before.before.before.clip2.ensures _ c.before.before.before.before.before.before.before.before.before.before.before.before.option_at.ensures _ c.before.before.before.before.before.before.before.before.before.before.locate.ensures _ c.before.before.before.before.before.before.before.before.locate2.ensures _ c.less.ensures).2)
 
 after-remove-requires : tie.Need-after-remove-requires
 after-remove-requires c κs = search rules
 
 after-insert-requires : tie.Need-after-insert-requires
-after-insert-requires c κs = publish-room c.before.before.before.before.before.before.before.before.before.before.before.before.before.before.before.before.before.before.before.before.before.before.before.before.before.before.before.requires _ c.before.before.before.before.before.before.before.before.before.before.before.before.before.before.before.clip.ensures _ c.before.before.before.before.before.before.before.before.before.before.before.before.before.before.clip2.ensures _ c.before.before.before.before.before.before.before.before.before.before.before.before.before.option_place.ensures _ c.before.before.before.before.before.before.before.before.before.before.before.locate.ensures _ c.before.before.before.before.before.before.before.before.before.locate2.ensures _ c.before.less.ensures
+after-insert-requires c κs = publish-room c.before.before.before.before.before.before.before.before.before.before.before.before.before.before.before.before.before.before.before.before.before.before.before.before.before.before.before.requires _ c.before.before.before.before.before.before.before.before.before.before.before.before.before.before.before.clip.ensures _ c.before.before.before.before.before.before.before.before.before.before.before.before.before.before.clip2.ensures _ c.before.before.before.before.before.before.before.before.before.before.before.before.before.option_at.ensures _ c.before.before.before.before.before.before.before.before.before.before.before.locate.ensures _ c.before.before.before.before.before.before.before.before.before.locate2.ensures _ c.before.less.ensures
 
 raised-requires : tie.Need-raised-requires
 raised-requires c κs = search rules
@@ -129,7 +129,7 @@ slice-aggregate-emit c = search rules
 
 emit-requires : tie.Need-emit-requires
 emit-requires c κs =
-    (publish-small c.before.before.before.before.before.before.before.before.before.before.before.before.before.before.before.before.before.before.before.before.before.before.before.before.before.before.before.before.before.before.before.before.before.before.requires _ c.before.before.before.before.before.before.before.before.before.before.before.before.before.before.before.before.before.before.before.before.before.before.clip.ensures _ c.before.before.before.before.before.before.before.before.before.before.before.before.before.before.before.before.before.before.before.before.before.clip2.ensures _ c.before.before.before.before.before.before.before.before.before.before.before.before.before.before.before.before.before.before.before.before.option_place.ensures _ c.before.before.before.before.before.before.before.before.before.before.before.before.before.before.before.before.before.before.locate.ensures _ c.before.before.before.before.before.before.before.before.before.before.before.before.before.before.before.before.locate2.ensures _ c.before.before.before.before.before.before.before.before.less.ensures _ _ c.before.before.before.before.before.before.before.after-remove.ensures c.before.before.before.before.before.before.after-insert.ensures _ c.before.before.before.before.before.raised.ensures, tt)
+    (publish-small c.before.before.before.before.before.before.before.before.before.before.before.before.before.before.before.before.before.before.before.before.before.before.before.before.before.before.before.before.before.before.before.before.before.before.requires _ c.before.before.before.before.before.before.before.before.before.before.before.before.before.before.before.before.before.before.before.before.before.before.clip.ensures _ c.before.before.before.before.before.before.before.before.before.before.before.before.before.before.before.before.before.before.before.before.before.clip2.ensures _ c.before.before.before.before.before.before.before.before.before.before.before.before.before.before.before.before.before.before.before.before.option_at.ensures _ c.before.before.before.before.before.before.before.before.before.before.before.before.before.before.before.before.before.before.locate.ensures _ c.before.before.before.before.before.before.before.before.before.before.before.before.before.before.before.before.locate2.ensures _ c.before.before.before.before.before.before.before.before.less.ensures _ _ c.before.before.before.before.before.before.before.after-remove.ensures c.before.before.before.before.before.before.after-insert.ensures _ c.before.before.before.before.before.raised.ensures, tt)
 
 same_length : tie.Need-same-length
 same_length c = search rules
@@ -143,7 +143,7 @@ returns-2 c =
     let a = c.before.before.before.before.before.before.before.before.before.before.before.before.before.before.before.before.before.before.before.before.before.before.before.before.before.before.before.before.before.before.before.before.before.before.before.before.before.before.before.args in
     let id = c.before.before.before.before.before.before.before.before.before.before.before.before.before.before.before.before.before.before.before.before.before.before.before.before.before.before.before.clip in
     let root = c.before.before.before.before.before.before.before.before.before.before.before.before.before.before.before.before.before.before.before.before.before.before.before.before.before.before.clip2 in
-    let prior = c.before.before.before.before.before.before.before.before.before.before.before.before.before.before.before.before.before.before.before.before.before.before.before.before.before.option_place in
+    let prior = c.before.before.before.before.before.before.before.before.before.before.before.before.before.before.before.before.before.before.before.before.before.before.before.before.before.option_at in
     let p = c.before.before.before.before.before.before.before.before.before.before.before.before.before.before.before.before.before.before.before.before.before.before.before.locate in
     let o = c.before.before.before.before.before.before.before.before.before.before.before.before.before.before.before.before.before.before.before.before.before.locate2 in
     let ahead = c.before.before.before.before.before.before.before.before.before.less2 in

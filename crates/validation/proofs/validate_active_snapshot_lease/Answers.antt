@@ -1,3 +1,4 @@
+use borrow.Author.Tests.{not-true, not-false}
 -- src/lib.rt:37:9
 -- src/lib.rt:39:9
 -- src/lib.rt:42:9
@@ -19,10 +20,10 @@ use Rattle.validation.proofs.validate_opened.Reads as validate-opened-reads
 use Rattle.validation.proofs.validate_active_snapshot_lease.Goals as goal
 
 pub returns-then-not-o : goal.returns-then-not-o
-returns-then-not-o c = not_an_image c.args.image.now c.args.token.now (not_opened c.args.image.now _ c.open-o.ensures (c.if-not-o.true))
+returns-then-not-o c = not_an_image c.args.image.now c.args.token.now (not_opened c.args.image.now _ c.open-o.ensures (not-true _ c.if-not-o.true))
 
 pub validate_opened-requires : goal.validate_opened-requires
-validate_opened-requires c = ready-token c.args.image.now c.args.token.now _ _ (opened_as c.args.image.now _ c.open-o.ensures (λ i. omega (arith, c.shared_slice_known-1.given i)) (c.if-not-o.false)) (λ i. omega (arith, c.shared_slice_known-2-1.given i)) (ap (token_read_of c.args.token.now) (sym c.in-Token.is) ∙ c.parse_token-p.ensures.result_value)
+validate_opened-requires c = ready-token c.args.image.now c.args.token.now _ _ (opened_as c.args.image.now _ c.open-o.ensures (λ i. omega (arith, c.shared_slice_known-1.given i)) (not-false _ c.if-not-o.false)) (λ i. omega (arith, c.shared_slice_known-2-1.given i)) (ap (token_read_of c.args.token.now) (sym c.in-Token.is) ∙ c.parse_token-p.ensures.result_value)
 
 pub returns-in-Fault : goal.returns-in-Fault
-returns-in-Fault c = not_a_token c.args.image.now c.args.token.now _ _ (opened_as c.args.image.now _ c.open-o.ensures (λ i. omega (arith, c.shared_slice_known-1.given i)) (c.if-not-o.false)).reads (sym (ap (token_read_of c.args.token.now) (sym c.in-Fault.is) ∙ c.parse_token-p.ensures.result_value))
+returns-in-Fault c = not_a_token c.args.image.now c.args.token.now _ _ (opened_as c.args.image.now _ c.open-o.ensures (λ i. omega (arith, c.shared_slice_known-1.given i)) (not-false _ c.if-not-o.false)).reads (sym (ap (token_read_of c.args.token.now) (sym c.in-Fault.is) ∙ c.parse_token-p.ensures.result_value))
