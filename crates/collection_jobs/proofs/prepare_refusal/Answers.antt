@@ -1,0 +1,59 @@
+use borrow.Author.Tests.{le-leb, le-ltb, lt-leb, lt-ltb}
+use mathlib.Core.Path.{sym, ◌∙◌}
+use Rattle.machine.specs.TestLaws.{first-here, first_on, first-none}
+use Rattle.collection_jobs.specs.Conflicts.{conflict_told}
+use Rattle.collection_jobs.specs.Tests.{malformed_tests, stale_tests}
+use Rattle.collection_jobs.specs.FirstLaws.{first_stops, first_past}
+use Rattle.collection_jobs.proofs.prepare_refusal.Goals as goal
+
+pub returns-then-first-ne0 : goal.returns-then-first-ne0
+returns-then-first-ne0 c = first_stops (malformed_tests c.args.request.now c.args.a) _ _ c.malformed-first.ensures c.if-first-ne0.true
+
+pub returns-then-place : goal.returns-then-place
+returns-then-place c = first-here _ _ _ (lt-ltb _ _ c.if-place.true)
+    ∙ first_past (malformed_tests c.args.request.now c.args.a) _ tt _ c.malformed-first.ensures c.if-first-ne0.false
+
+pub returns-then-any_conflict : goal.returns-then-any_conflict
+returns-then-any_conflict c = first-here _ _ _ (conflict_told _ _ _ _ _ _ c.clip-root.ensures c.clip-namespace.ensures c.any_conflict.ensures ∙ c.if-any_conflict.true)
+    ∙ first_on _ _ _ (le-ltb _ _ c.if-place.false)
+    ∙ first_past (malformed_tests c.args.request.now c.args.a) _ tt _ c.malformed-first.ensures c.if-first-ne0.false
+
+pub returns-then-old-ne0 : goal.returns-then-old-ne0
+returns-then-old-ne0 c = first_stops (stale_tests c.args.image.now c.args.c c.args.request.now c.args.f.ignore_collection_range_epoch c.args.a.range_map_epoch c.args.a.destination_root c.args.a.expected_collected_through) _ _ c.stale-old.ensures c.if-old-ne0.true
+    ∙ first_on _ _ _ (conflict_told _ _ _ _ _ _ c.clip-root.ensures c.clip-namespace.ensures c.any_conflict.ensures ∙ c.if-any_conflict.false)
+    ∙ first_on _ _ _ (le-ltb _ _ c.if-place.false)
+    ∙ first_past (malformed_tests c.args.request.now c.args.a) _ tt _ c.malformed-first.ensures c.if-first-ne0.false
+
+pub returns-then-a-n : goal.returns-then-a-n
+returns-then-a-n c = first-here _ _ _ (le-leb _ _ c.if-a-n.true)
+    ∙ first_past (stale_tests c.args.image.now c.args.c c.args.request.now c.args.f.ignore_collection_range_epoch c.args.a.range_map_epoch c.args.a.destination_root c.args.a.expected_collected_through) _ tt _ c.stale-old.ensures c.if-old-ne0.false
+    ∙ first_on _ _ _ (conflict_told _ _ _ _ _ _ c.clip-root.ensures c.clip-namespace.ensures c.any_conflict.ensures ∙ c.if-any_conflict.false)
+    ∙ first_on _ _ _ (le-ltb _ _ c.if-place.false)
+    ∙ first_past (malformed_tests c.args.request.now c.args.a) _ tt _ c.malformed-first.ensures c.if-first-ne0.false
+
+pub returns-then-n-a : goal.returns-then-n-a
+returns-then-n-a c = first-here _ _ _ (lt-ltb _ _ c.if-n-a.true)
+    ∙ first_on _ _ _ (lt-leb _ _ c.if-a-n.false)
+    ∙ first_past (stale_tests c.args.image.now c.args.c c.args.request.now c.args.f.ignore_collection_range_epoch c.args.a.range_map_epoch c.args.a.destination_root c.args.a.expected_collected_through) _ tt _ c.stale-old.ensures c.if-old-ne0.false
+    ∙ first_on _ _ _ (conflict_told _ _ _ _ _ _ c.clip-root.ensures c.clip-namespace.ensures c.any_conflict.ensures ∙ c.if-any_conflict.false)
+    ∙ first_on _ _ _ (le-ltb _ _ c.if-place.false)
+    ∙ first_past (malformed_tests c.args.request.now c.args.a) _ tt _ c.malformed-first.ensures c.if-first-ne0.false
+
+pub returns-then-other_input : goal.returns-then-other_input
+returns-then-other_input c = first-here _ _ _ (sym c.other_input.ensures ∙ c.if-other_input.true)
+    ∙ first_on _ _ _ (le-ltb _ _ c.if-n-a.false)
+    ∙ first_on _ _ _ (lt-leb _ _ c.if-a-n.false)
+    ∙ first_past (stale_tests c.args.image.now c.args.c c.args.request.now c.args.f.ignore_collection_range_epoch c.args.a.range_map_epoch c.args.a.destination_root c.args.a.expected_collected_through) _ tt _ c.stale-old.ensures c.if-old-ne0.false
+    ∙ first_on _ _ _ (conflict_told _ _ _ _ _ _ c.clip-root.ensures c.clip-namespace.ensures c.any_conflict.ensures ∙ c.if-any_conflict.false)
+    ∙ first_on _ _ _ (le-ltb _ _ c.if-place.false)
+    ∙ first_past (malformed_tests c.args.request.now c.args.a) _ tt _ c.malformed-first.ensures c.if-first-ne0.false
+
+pub returns : goal.returns
+returns c = first-none
+    ∙ first_on _ _ _ (sym c.other_input.ensures ∙ c.if-other_input.false)
+    ∙ first_on _ _ _ (le-ltb _ _ c.if-n-a.false)
+    ∙ first_on _ _ _ (lt-leb _ _ c.if-a-n.false)
+    ∙ first_past (stale_tests c.args.image.now c.args.c c.args.request.now c.args.f.ignore_collection_range_epoch c.args.a.range_map_epoch c.args.a.destination_root c.args.a.expected_collected_through) _ tt _ c.stale-old.ensures c.if-old-ne0.false
+    ∙ first_on _ _ _ (conflict_told _ _ _ _ _ _ c.clip-root.ensures c.clip-namespace.ensures c.any_conflict.ensures ∙ c.if-any_conflict.false)
+    ∙ first_on _ _ _ (le-ltb _ _ c.if-place.false)
+    ∙ first_past (malformed_tests c.args.request.now c.args.a) _ tt _ c.malformed-first.ensures c.if-first-ne0.false
