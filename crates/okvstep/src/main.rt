@@ -7,17 +7,20 @@ ghost use Rattle.parts.specs.Answer.{image_of};
 ghost use Rattle.parts.specs.Over.{over};
 ghost use Rattle.okvstep.specs.Moments.{room, outcome_room, answered, Moment, line_of, stepped_of};
 
-use libc::{STDIN_FILENO, STDOUT_FILENO};
+// The numbers of the standard input and output.
+const STDIN: i32 = 0;
+
+const STDOUT: i32 = 1;
 
 // A run steps no more frames than the claims of a history speak of: fewer than 2^64 - 1.
 const MOST_FRAMES: u64 = 18446744073709551614;
 
 fn write(s: &[u8]) {
-    io::write_all(STDOUT_FILENO, s);
+    io::write_all(STDOUT, s);
 }
 
 fn write_number(n: u64) {
-    io::print_decimal(STDOUT_FILENO, n);
+    io::print_decimal(STDOUT, n);
 }
 
 // The fields of a line in their order, one space apart.
@@ -66,7 +69,7 @@ fn size_of(head: &[u8; 4]) -> usize {
 
 fn read_frame(frame: &mut [u8]) -> Frame {
     let mut head = [0u8; 4];
-    let n = io::read_full(STDIN_FILENO, &mut head);
+    let n = io::read_full(STDIN, &mut head);
     if n == 0 {
         return Frame::Done;
     }
@@ -77,7 +80,7 @@ fn read_frame(frame: &mut [u8]) -> Frame {
     if frame.len() < size {
         return Frame::Bad;
     }
-    let got = io::read_full(STDIN_FILENO, &mut frame[..size]);
+    let got = io::read_full(STDIN, &mut frame[..size]);
     if got < size {
         return Frame::Bad;
     }

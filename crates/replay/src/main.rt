@@ -12,8 +12,12 @@
 
 ghost use Rattle.std.specs.Prelude.{◌≤◌, length};
 
-use libc::{STDIN_FILENO, STDOUT_FILENO};
 use parts::Applied;
+
+// The numbers of the standard input and output.
+const STDIN: i32 = 0;
+
+const STDOUT: i32 = 1;
 
 // What a lent byte holds before a call.
 const FILLING: u8 = 165;
@@ -35,11 +39,11 @@ struct Case {
 }
 
 fn write(s: &[u8]) {
-    io::write_all(STDOUT_FILENO, s);
+    io::write_all(STDOUT, s);
 }
 
 fn write_number(n: u64) {
-    io::print_decimal(STDOUT_FILENO, n);
+    io::print_decimal(STDOUT, n);
 }
 
 // n bytes on, as far as the cases go.
@@ -308,6 +312,6 @@ fn main() {
     let mut cases = [0u8; 524288];
     let mut next = [0u8; 65536];
     let mut outcome = [0u8; 16384];
-    let n = io::read_full(STDIN_FILENO, &mut cases);
+    let n = io::read_full(STDIN, &mut cases);
     run(parts::clip(&cases, 0, n), &mut next, &mut outcome);
 }

@@ -15,11 +15,15 @@
 
 ghost use Rattle.std.specs.Prelude.{◌≤◌, ◌*◌, length};
 
-use libc::STDOUT_FILENO;
 use text::{Compared, Order};
 
+// The numbers of the standard input and output.
+const STDIN: i32 = 0;
+
+const STDOUT: i32 = 1;
+
 fn write(s: &[u8]) {
-    io::write_all(STDOUT_FILENO, s);
+    io::write_all(STDOUT, s);
 }
 
 fn write_bool(yes: bool) {
@@ -31,7 +35,7 @@ fn write_bool(yes: bool) {
 }
 
 fn write_number(n: usize) {
-    io::print_decimal(STDOUT_FILENO, n as u64);
+    io::print_decimal(STDOUT, n as u64);
 }
 
 fn write_order(c: Compared) {
@@ -237,6 +241,6 @@ fn each_line(s: &[u8]) {
 
 fn main() {
     let mut input = io::large_buffer();
-    let n = io::read_full(0, &mut input);
+    let n = io::read_full(STDIN, &mut input);
     each_line(&input[..n]);
 }

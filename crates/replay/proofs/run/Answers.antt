@@ -1,0 +1,7 @@
+use native.Mathlib.Omega.{arith}
+use Prim.Native.Nat.{◌-◌}
+use mathlib.Core.Path.{refl}
+use Rattle.replay.proofs.run.Goals as goal
+
+pub loop-count-init : goal.loop-count-init
+loop-count-init c = (omega arith, omega arith, refl, refl)
