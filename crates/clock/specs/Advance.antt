@@ -5,10 +5,10 @@ use Rattle.std.proofs.Math.Bool.{not}
 use Rattle.std.proofs.Math.Path.{refl, ap}
 use Rattle.parts.specs.Gather.{run, gather_of}
 use Rattle.state.specs.Maps.{Text, Map, Every, select, ◌⟼◌, key_of, entries_where, remove_all}
-use Rattle.state.specs.MapLaws.{by_test}
-use Rattle.state.specs.Places.{without, remove_all-is, remove_all_rearranged}
+use Rattle.state.proofs.MapLaws.{by_test}
+use Rattle.state.proofs.Places.{without, remove_all-is, remove_all_rearranged}
 use Rattle.state.specs.Sort.{Pairs}
-use Rattle.state.specs.Sorted.{in_order}
+use Rattle.state.proofs.SortedLaws.{in_order}
 use Rattle.state.specs.Records.{SnapshotLeaseToken, State}
 use Rattle.state.specs.Setters.{set_revision}
 use Rattle.fields.specs.Format.{all}
@@ -18,20 +18,23 @@ use Rattle.tables.specs.SeekLaws.{tails, rows_are}
 use Rattle.image.specs.Layout.{leases, jobs, with_map, Formed}
 use Rattle.image.specs.Front.{Small}
 use Rattle.image.specs.Opened.{Shows, Holds}
-use Rattle.image.specs.OpenedLaws.{run-to}
+use Rattle.image.proofs.OpenedLaws.{run-to}
 use Rattle.image.specs.Shapes.{lease}
-use Rattle.image.specs.Tables.{lease_row, bytes-remove_all}
-use Rattle.image.specs.ImageParts.{tables_of, joined, rows-count}
-use Rattle.image.specs.Stored.{stored_in}
-use Rattle.image.specs.TableLaws.{table_in, tables_place, before, behind, joined_with, size_is, count-is, table_here, around_here, table-starts, tables_with}
+use Rattle.image.specs.Tables.{lease_row}
+use Rattle.image.proofs.TableRowLaws.{bytes-remove_all}
+use Rattle.image.specs.ImageParts.{tables_of, joined}
+use Rattle.image.proofs.ImagePartLaws.{rows-count}
+use Rattle.image.proofs.StoredLaws.{stored_in}
+use Rattle.image.specs.TableLaws.{table_in, tables_place, before, behind}
+use Rattle.image.proofs.TablePlaceLaws.{joined_with, size_is, count-is, table_here, around_here, table-starts, tables_with}
 use Rattle.image.specs.declared.Contents.{Contents}
 use Rattle.machine.specs.Actions.{rejected, accepted, Rule, decide, LeasesExpired}
 use Rattle.machine.specs.Machine.{act, advance_lease_clock}
 use Rattle.machine.specs.Next.{up, oldest, ends_by, moved, ended, expired, clock_advanced}
-use Rattle.machine.specs.ExpiredLaws.{expired_rearranged, expired-count}
+use Rattle.machine.proofs.ExpiredLaws.{expired_rearranged, expired-count}
 use Rattle.machine.specs.Tests.{Refusal, ◌when◌, first_of}
-use Rattle.machine.specs.TestLaws.{Agrees, ◌then◌, first-refuses, first_decides}
-use Rattle.entries.specs.Sized.{well_formed}
+use Rattle.machine.proofs.TestLaws.{Agrees, ◌then◌, first-refuses, first_decides}
+use Rattle.entries.proofs.Sized.{well_formed}
 use Rattle.requests.specs.Outcome.{encode_outcome}
 use Rattle.requests.specs.Meaning.{position_of, context_of, faults_of, action_of}
 use Rattle.requests.specs.declared.PublicationAction.{PublicationAction}

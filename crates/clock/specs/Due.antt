@@ -11,13 +11,14 @@ use Rattle.std.proofs.Math.Seq.{take-append_seam}
 use Rattle.text.specs.Order.{order_of}
 use Rattle.text.specs.declared.Order.TheVariants.{Less}
 use Rattle.state.specs.Maps.{Text, Map, Every, select, ◌⟼◌, key_of, entries_where}
-use Rattle.state.specs.MapLaws.{Each, by_test}
-use Rattle.state.specs.Places.{without}
+use Rattle.state.proofs.MapLaws.{by_test}
+use Rattle.state.specs.Sorted.{Each}
+use Rattle.state.proofs.Places.{without}
 use Rattle.state.specs.Sort.{Pairs}
 use Rattle.state.specs.Sorted.{InOrder}
 use Rattle.state.specs.Records.{SnapshotLeaseToken}
 use Rattle.fields.specs.Format.{all, El, enc, enc_text}
-use Rattle.fields.specs.FormatLaws.{dec-enc}
+use Rattle.fields.proofs.FormatLaws.{dec-enc}
 use Rattle.fields.specs.Codes.{codes, skip, codes_of, shape}
 use Rattle.fields.specs.Walks.{place_of}
 use Rattle.fields.specs.Rows.{text_here}
@@ -26,13 +27,14 @@ use Rattle.image.specs.Shapes.{lease, lease_rest, lease_parts, lease_from}
 use Rattle.image.specs.Tables.{lease_row, kept}
 use Rattle.machine.specs.Formed.{LeaseAt}
 use Rattle.machine.specs.Next.{ends_by, oldest}
-use Rattle.entries.specs.Sized.{image_texts}
+use Rattle.entries.proofs.Sized.{image_texts}
 use Rattle.expiry.specs.Due.{due, next-is, rest-low}
-use Rattle.requests.specs.Peek.{peek, peek-dec}
+use Rattle.requests.specs.Peek.{peek}
+use Rattle.requests.proofs.PeekLaws.{peek-dec}
 use Rattle.next.specs.Expired.{lease_in, ById, WholeId}
 use Rattle.leases.specs.Rows.{deadline-row}
 use Rattle.leases.specs.Oldest.{oldest_kept}
-use Rattle.image.specs.Stored.{front}
+use Rattle.image.proofs.StoredLaws.{front}
 use Rattle.floor.specs.Oldest.{version-row}
 
 -- the bytes of the row at the head

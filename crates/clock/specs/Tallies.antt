@@ -8,7 +8,8 @@ use Rattle.std.proofs.Common.{◌∙◌, length-append}
 use Rattle.std.proofs.Math.ListN.{length}
 use Rattle.parts.specs.Digits.{value}
 use Rattle.fields.specs.Codes.{codes, skip, codes_of, shape}
-use Rattle.fields.specs.Walks.{place_of, drop-within}
+use Rattle.fields.specs.Walks.{place_of}
+use Rattle.fields.proofs.WalkLaws.{drop-within}
 use Rattle.tables.specs.Seek.{rows_at}
 use Rattle.image.specs.Shapes.{lease, before_version}
 use Rattle.expiry.specs.Due.{due, next_low, rows_none, rows_next}

@@ -15,7 +15,7 @@ use Rattle.tables.specs.Seek.{Seen, seek, placed}
 use Rattle.tables.specs.declared.Place.{Place}
 use Rattle.image.specs.Shapes.{job, job_parts}
 use Rattle.image.specs.Layout.{jobs}
-use Rattle.image.specs.SameBytes.{same-job}
+use Rattle.image.proofs.SameBytes.{same-job}
 use Rattle.image.specs.ImageParts.{joined, tables_of}
 use Rattle.image.specs.Opened.{Shows}
 use Rattle.image.specs.TableLaws.{table_in, tables_place}
@@ -26,7 +26,7 @@ use Rattle.machine.specs.Actions.{Rule, rejected, accepted, decide, Applied}
 use Rattle.machine.specs.Machine.{act, abandon_collection}
 use Rattle.machine.specs.Next.{collection_abandoned}
 use Rattle.machine.specs.Tests.{Refusal, first_of}
-use Rattle.machine.specs.TestLaws.{Agrees, ◌then◌, first-refuses, first-passed, first_decides}
+use Rattle.machine.proofs.TestLaws.{Agrees, ◌then◌, first-refuses, first-passed, first_decides}
 use Rattle.requests.specs.Meaning.{text_of, job_token_of, position_of, context_of, faults_of, action_of, request_of}
 use Rattle.requests.specs.declared.AuthorityContext.{AuthorityContext as ContextAt}
 use Rattle.requests.specs.declared.PublicationAuthorityFaults.{PublicationAuthorityFaults as FaultsAt}

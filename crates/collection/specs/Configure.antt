@@ -14,11 +14,13 @@ use Rattle.state.specs.Maps.{Text, same, same_option, is_empty, has_key}
 use Rattle.state.specs.Records.{State}
 use Rattle.state.specs.Setters.{set_revision}
 use Rattle.fields.specs.Format.{option, enc, enc_option, enc_text}
-use Rattle.fields.specs.Codes.{codes_of, shape, shape-codes}
+use Rattle.fields.specs.Codes.{codes_of, shape}
+use Rattle.fields.proofs.CodeLaws.{shape-codes}
 use Rattle.image.specs.Shapes.{name}
 use Rattle.image.specs.Layout.{roots, jobs, row_format}
 use Rattle.image.specs.Opened.{root_width, root_bytes, Shows}
-use Rattle.image.specs.TableLaws.{table_in, count-is}
+use Rattle.image.specs.TableLaws.{table_in}
+use Rattle.image.proofs.TablePlaceLaws.{count-is}
 use Rattle.image.specs.Front.{Small}
 use Rattle.image.specs.declared.MaybeText.{MaybeText}
 use Rattle.image.specs.declared.Scalars.{Scalars}
@@ -27,13 +29,13 @@ use Rattle.machine.specs.Actions.{Rule, rejected, accepted, decide, Applied}
 use Rattle.machine.specs.Machine.{act, configure_collection_root}
 use Rattle.machine.specs.Next.{root_configured}
 use Rattle.machine.specs.Tests.{Refusal, first_of}
-use Rattle.machine.specs.TestLaws.{Agrees, ◌then◌, first-refuses, first_decides}
+use Rattle.machine.proofs.TestLaws.{Agrees, ◌then◌, first-refuses, first_decides}
 use Rattle.requests.specs.Meaning.{text_of, maybe_text_of, position_of, context_of, faults_of, action_of, request_of}
 use Rattle.requests.specs.declared.AuthorityContext.{AuthorityContext as ContextAt}
 use Rattle.requests.specs.declared.PublicationAuthorityFaults.{PublicationAuthorityFaults as FaultsAt}
 use Rattle.requests.specs.declared.ConfigureCollectionRoot.{ConfigureCollectionRoot as ConfigureAt}
 use Rattle.requests.specs.declared.PublicationAction.{PublicationAction}
-use Rattle.image.specs.OpenedLaws.{run-to, after_seam}
+use Rattle.image.proofs.OpenedLaws.{run-to, after_seam}
 use Rattle.next.specs.Call.{Ready, ruled}
 use Rattle.next.specs.Asked.{fields_here}
 use Rattle.next.specs.Contents.{raised}

@@ -11,9 +11,12 @@ use Rattle.text.specs.Same.{same_of, prefix_of}
 use Rattle.state.specs.Maps.{Text, Map, ◌⟼◌, key_of, same, starts_with, any, any_value}
 use Rattle.state.specs.Records.{State, CollectionJobToken}
 use Rattle.fields.specs.Format.{◌▹◌, El, enc, enc_text, all}
-use Rattle.fields.specs.Codes.{Code, codes, codes_of, skip, shape, shape-codes}
-use Rattle.fields.specs.Rows.{text_here, text-there}
-use Rattle.fields.specs.Walks.{place_of, drop-within}
+use Rattle.fields.specs.Codes.{Code, codes, codes_of, skip, shape}
+use Rattle.fields.proofs.CodeLaws.{shape-codes}
+use Rattle.fields.specs.Rows.{text_here}
+use Rattle.fields.proofs.RowLaws.{text-there}
+use Rattle.fields.specs.Walks.{place_of}
+use Rattle.fields.proofs.WalkLaws.{drop-within}
 use Rattle.tables.specs.Skips.{after_record}
 use Rattle.tables.specs.Seek.{rows_at}
 use Rattle.tables.specs.SeekLaws.{tails, rows_are}
@@ -21,8 +24,9 @@ use Rattle.image.specs.Shapes.{u64, key, job, job_parts, position_parts, referen
 use Rattle.image.specs.Layout.{jobs, Formed}
 use Rattle.image.specs.Tables.{job_row}
 use Rattle.image.specs.Opened.{Holds}
-use Rattle.image.specs.Stored.{stored_in}
-use Rattle.image.specs.TableLaws.{table_in, behind, count-is, table_here}
+use Rattle.image.proofs.StoredLaws.{stored_in}
+use Rattle.image.specs.TableLaws.{table_in, behind}
+use Rattle.image.proofs.TablePlaceLaws.{count-is, table_here}
 use Rattle.image.specs.declared.Contents.{Contents}
 use Rattle.machine.specs.Machine.{conflicts}
 use Rattle.next.specs.Peeks.{skip-to}

@@ -3,7 +3,7 @@ use Rattle.std.specs.Prelude.{ℕ, true, false, not, List, [], ◌∷◌, ◌++�
 use Rattle.std.proofs.Common.{sym, ◌∙◌}
 use Rattle.std.proofs.lemmas.Bool.{eqb-false, not-true}
 use Rattle.machine.specs.Tests.{Refusal, ◌when◌, first_of}
-use Rattle.machine.specs.TestLaws.{Provided, provided}
+use Rattle.machine.proofs.TestLaws.{Provided, provided}
 
 -- no status is 0: with literals, tt
 abbrev Statuses : List Refusal → Type 0

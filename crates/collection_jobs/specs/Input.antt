@@ -7,13 +7,14 @@ use Rattle.parts.specs.Gather.{run}
 use Rattle.state.specs.Maps.{Text, lookup, same_option}
 use Rattle.state.specs.Records.{State, ObjectReference, reference_eq}
 use Rattle.fields.specs.Format.{enc, Within}
-use Rattle.fields.specs.Codes.{Code, codes, codes_of, skip, shape, shape-codes}
+use Rattle.fields.specs.Codes.{Code, codes, codes_of, skip, shape}
+use Rattle.fields.proofs.CodeLaws.{shape-codes}
 use Rattle.fields.specs.Walks.{place_of}
 use Rattle.tables.specs.declared.Place.{Place}
 use Rattle.image.specs.Shapes.{reference, reference_parts}
 use Rattle.image.specs.Layout.{roots, Formed}
 use Rattle.image.specs.Opened.{Holds}
-use Rattle.image.specs.OpenedLaws.{run-to}
+use Rattle.image.proofs.OpenedLaws.{run-to}
 use Rattle.image.specs.declared.Contents.{Contents}
 use Rattle.next.specs.Peeks.{skip-to}
 use Rattle.edits.specs.PlaceLaws.{Located}

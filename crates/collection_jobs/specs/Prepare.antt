@@ -13,7 +13,7 @@ use Rattle.parts.specs.Digits.{digits}
 use Rattle.parts.specs.DigitLaws.{length_digits}
 use Rattle.parts.specs.Gather.{run, gather_of}
 use Rattle.state.specs.Maps.{Text, ◌⟼◌, same, same_option, is_some, has_key, insert}
-use Rattle.state.specs.MapLaws.{by_test}
+use Rattle.state.proofs.MapLaws.{by_test}
 use Rattle.state.specs.Records.{State, ObjectReference, CollectionJobToken}
 use Rattle.state.specs.Setters.{set_revision}
 use Rattle.fields.specs.Format.{Field, ◌▹◌, enc, enc_text}
@@ -24,7 +24,7 @@ use Rattle.image.specs.Shapes.{u64, name, key, reference, job, job_parts, refere
 use Rattle.image.specs.Layout.{roots, jobs, row_format}
 use Rattle.image.specs.ImageParts.{row_bytes, joined, tables_of}
 use Rattle.image.specs.Opened.{Shows}
-use Rattle.image.specs.OpenedLaws.{run-to, after_seam}
+use Rattle.image.proofs.OpenedLaws.{run-to, after_seam}
 use Rattle.image.specs.TableLaws.{table_in, tables_place}
 use Rattle.image.specs.Front.{Small}
 use Rattle.image.specs.declared.Table.{Table}
@@ -33,7 +33,7 @@ use Rattle.machine.specs.Actions.{Rule, rejected, accepted, decide, CollectionPr
 use Rattle.machine.specs.Machine.{act, prepare_collection}
 use Rattle.machine.specs.Next.{collection_prepared, new_job}
 use Rattle.machine.specs.Tests.{Refusal, first_of}
-use Rattle.machine.specs.TestLaws.{Agrees, ◌then◌, first-refuses, first_decides}
+use Rattle.machine.proofs.TestLaws.{Agrees, ◌then◌, first-refuses, first_decides}
 use Rattle.requests.specs.Meaning.{text_of, reference_of, context_of, faults_of, position_of, action_of, request_of}
 use Rattle.requests.specs.declared.AuthorityContext.{AuthorityContext as ContextAt}
 use Rattle.requests.specs.declared.PublicationAuthorityFaults.{PublicationAuthorityFaults as FaultsAt}

@@ -13,24 +13,26 @@ use Rattle.parts.specs.Digits.{digits}
 use Rattle.parts.specs.DigitLaws.{length_digits}
 use Rattle.parts.specs.Gather.{run, gather_of}
 use Rattle.state.specs.Maps.{Text, Map, ◌⟼◌, same, same_option, lookup, insert, remove}
-use Rattle.state.specs.Places.{ahead, at, behind}
+use Rattle.state.proofs.Places.{ahead, at, behind}
 use Rattle.state.specs.Records.{State, ObjectReference, CollectionJobToken, CollectionReceipt, reference_eq, job_eq}
-use Rattle.state.specs.RecordLaws.{job_sound}
+use Rattle.state.proofs.RecordLaws.{job_sound}
 use Rattle.state.specs.Setters.{set_revision, set_roots}
 use Rattle.fields.specs.Format.{◌▹◌, enc, enc_text, all}
-use Rattle.fields.specs.Codes.{Code, codes, codes_of, skip, shape, shape-codes}
+use Rattle.fields.specs.Codes.{Code, codes, codes_of, skip, shape}
+use Rattle.fields.proofs.CodeLaws.{shape-codes}
 use Rattle.fields.specs.Walks.{place_of}
 use Rattle.tables.specs.Seek.{Seen, seek, placed}
 use Rattle.tables.specs.declared.Place.{Place}
 use Rattle.image.specs.Shapes.{u64, key, keys, reference, job, reference_parts, job_parts}
 use Rattle.image.specs.Layout.{intents, pins, roots, reservations, leases, jobs, row_format}
-use Rattle.image.specs.SameBytes.{same-reference, same-job}
-use Rattle.image.specs.Tables.{bytes_split, bytes-insert, bytes-remove}
+use Rattle.image.proofs.SameBytes.{same-reference, same-job}
+use Rattle.image.proofs.TableRowLaws.{bytes_split, bytes-insert, bytes-remove}
 use Rattle.image.specs.ImageParts.{row_bytes, table_of, tables_of, joined}
 use Rattle.image.specs.Opened.{measure_in, Shows}
-use Rattle.image.specs.OpenedLaws.{run-to, after_seam}
-use Rattle.image.specs.Stored.{stored_in}
-use Rattle.image.specs.TableLaws.{table_in, tables_place, size_is, count-is, measures-set, measures_with}
+use Rattle.image.proofs.OpenedLaws.{run-to, after_seam}
+use Rattle.image.proofs.StoredLaws.{stored_in}
+use Rattle.image.specs.TableLaws.{table_in, tables_place}
+use Rattle.image.proofs.TablePlaceLaws.{size_is, count-is, measures-set, measures_with}
 use Rattle.image.specs.Front.{Small}
 use Rattle.image.specs.declared.Table.{Table}
 use Rattle.image.specs.declared.Contents.{Contents}
@@ -38,7 +40,7 @@ use Rattle.machine.specs.Actions.{Rule, rejected, accepted, decide, CollectionPu
 use Rattle.machine.specs.Machine.{act, publish_collection}
 use Rattle.machine.specs.Next.{collection_published}
 use Rattle.machine.specs.Tests.{Refusal, first_of}
-use Rattle.machine.specs.TestLaws.{Agrees, ◌then◌, first-refuses, first-passed, first_decides}
+use Rattle.machine.proofs.TestLaws.{Agrees, ◌then◌, first-refuses, first-passed, first_decides}
 use Rattle.requests.specs.Meaning.{receipt_of, context_of, faults_of, position_of, action_of, request_of}
 use Rattle.requests.specs.declared.AuthorityContext.{AuthorityContext as ContextAt}
 use Rattle.requests.specs.declared.PublicationAuthorityFaults.{PublicationAuthorityFaults as FaultsAt}

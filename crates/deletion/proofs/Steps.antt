@@ -5,7 +5,8 @@ use mathlib.Core.Bool.{Bool, true, false, ◌&&◌, ◌||◌}
 use mathlib.Core.Path.{◌≡◌, refl, sym, ap, ◌∙◌}
 use lib.ListN.{drop}
 use Rattle.state.specs.Maps.{Text, same, any}
-use Rattle.fields.specs.Codes.{Code, codes, skip, codes_of, shape, shape-codes}
+use Rattle.fields.specs.Codes.{Code, codes, skip, codes_of, shape}
+use Rattle.fields.proofs.CodeLaws.{shape-codes}
 use Rattle.fields.specs.Rows.{text_here}
 use Rattle.fields.specs.Walks.{place_of}
 use Rattle.scans.specs.Scans.{names_at, uses_at}

@@ -20,7 +20,7 @@ use Rattle.image.specs.Shapes.{key, identity, permit, permit_parts, identity_par
 use Rattle.image.specs.Layout.{reservations}
 use Rattle.image.specs.ImageParts.{tables_of, joined}
 use Rattle.image.specs.Opened.{measures_in, Shows}
-use Rattle.image.specs.OpenedLaws.{run-to, after_seam}
+use Rattle.image.proofs.OpenedLaws.{run-to, after_seam}
 use Rattle.image.specs.TableLaws.{table_in, tables_place}
 use Rattle.image.specs.Front.{Small}
 use Rattle.image.specs.declared.Table.{Table}
@@ -29,7 +29,7 @@ use Rattle.machine.specs.Actions.{Rule, rejected, accepted, decide, DeleteReserv
 use Rattle.machine.specs.Next.{new_permit, reserved}
 use Rattle.machine.specs.Machine.{act, reserve_delete}
 use Rattle.machine.specs.Tests.{Refusal, first_of}
-use Rattle.machine.specs.TestLaws.{Agrees, ◌then◌, first-refuses, first_decides}
+use Rattle.machine.proofs.TestLaws.{Agrees, ◌then◌, first-refuses, first_decides}
 use Rattle.requests.specs.Meaning.{text_of, identity_of, position_of, context_of, faults_of, action_of, request_of}
 use Rattle.requests.specs.declared.AuthorityContext.{AuthorityContext}
 use Rattle.requests.specs.declared.PublicationAuthorityFaults.{PublicationAuthorityFaults}

@@ -10,11 +10,12 @@ use Rattle.state.specs.Records.{DeletePermit, State, permit_eq}
 use Rattle.state.specs.Setters.{set_revision}
 use Rattle.fields.specs.Format.{◌▹◌, enc, enc_text, Within}
 use Rattle.fields.specs.Codes.{codes, skip, codes_of, shape}
-use Rattle.fields.specs.Rows.{text_here, text-there}
+use Rattle.fields.specs.Rows.{text_here}
+use Rattle.fields.proofs.RowLaws.{text-there}
 use Rattle.tables.specs.Seek.{Seen, seek, placed}
 use Rattle.tables.specs.declared.Place.{Place}
 use Rattle.image.specs.Shapes.{u64, position, permit, permit_rest, permit_parts, identity_parts, position_parts, before_plan}
-use Rattle.image.specs.SameBytes.{same-permit}
+use Rattle.image.proofs.SameBytes.{same-permit}
 use Rattle.image.specs.Layout.{reservations}
 use Rattle.image.specs.ImageParts.{tables_of, joined}
 use Rattle.image.specs.Opened.{measures_in, Shows}
@@ -26,7 +27,7 @@ use Rattle.machine.specs.Actions.{Rule, rejected, accepted, decide, Applied}
 use Rattle.machine.specs.Machine.{act, retire_delete}
 use Rattle.machine.specs.Next.{retired}
 use Rattle.machine.specs.Tests.{Refusal, first_of}
-use Rattle.machine.specs.TestLaws.{Agrees, ◌then◌, first-refuses, first-passed, first_decides}
+use Rattle.machine.proofs.TestLaws.{Agrees, ◌then◌, first-refuses, first-passed, first_decides}
 use Rattle.requests.specs.Meaning.{text_of, permit_of, position_of, context_of, faults_of, action_of}
 use Rattle.requests.specs.declared.AuthorityContext.{AuthorityContext}
 use Rattle.requests.specs.declared.PublicationAuthorityFaults.{PublicationAuthorityFaults}

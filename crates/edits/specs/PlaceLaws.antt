@@ -5,18 +5,20 @@ use Rattle.std.proofs.Common.{arith, append_assoc, append-nil, sym, ap, ◌∙�
 use Rattle.std.proofs.Math.Option.{none, some}
 use Rattle.parts.specs.Gather.{run, gather_of}
 use Rattle.state.specs.Maps.{Text, Map, Entry, ◌⟼◌, is_some, has_key, lookup, insert, remove}
-use Rattle.state.specs.MapLaws.{by_test}
-use Rattle.state.specs.Places.{at}
+use Rattle.state.proofs.MapLaws.{by_test}
+use Rattle.state.proofs.Places.{at}
 use Rattle.state.specs.Records.{State}
 use Rattle.fields.specs.Format.{all, enc, enc_text, Within}
-use Rattle.fields.specs.Codes.{codes, codes_of, shape, shape-codes}
+use Rattle.fields.specs.Codes.{codes, codes_of, shape}
+use Rattle.fields.proofs.CodeLaws.{shape-codes}
 use Rattle.tables.specs.Seek.{seek, placed}
 use Rattle.tables.specs.declared.Place.{Place}
 use Rattle.image.specs.Layout.{TableName, intents, roots, pins, reservations, leases, jobs, Value, map_of, with_map, row_format, row_in, Formed}
 use Rattle.image.specs.ImageParts.{row_bytes, tables_of, joined, measures}
 use Rattle.image.specs.Opened.{measures_in, Holds}
-use Rattle.image.specs.Stored.{stored_in}
-use Rattle.image.specs.TableLaws.{index, table_in, tables_place, before, behind, joined_with, tables-low, size_is, count-is, table_here, around_here, table-starts, tables_with}
+use Rattle.image.proofs.StoredLaws.{stored_in}
+use Rattle.image.specs.TableLaws.{index, table_in, tables_place, before, behind}
+use Rattle.image.proofs.TablePlaceLaws.{joined_with, tables-low, size_is, count-is, table_here, around_here, table-starts, tables_with}
 use Rattle.image.specs.declared.Contents.{Contents}
 use Rattle.next.specs.Edit.{Spot, place-low, run_row, none-there, some_there, row-there, insert-size, remove-size, insert-count, remove-count, removed_run, inserted_run}
 use Rattle.edits.specs.Changes.{after_insert, after_remove}

@@ -1,20 +1,19 @@
 -- The starred edges E2 to E10, and the order of ids, OVER BYTES: the rows of the machine's table, asked of the byte entries. Each
 -- call is an encoded request on the image that the call before it wrote, the first on the default image, with as much room as
 -- okvstep lends.
-use Rattle.std.specs.Prelude.{ℕ, ◌≡◌, refl, Bool, true, false, ◌&&◌, List, [], ◌∷◌, map, eqb, length}
+use Rattle.std.specs.Prelude.{ℕ, Bool, false, ◌&&◌, List, [], ◌∷◌, map, eqb, length}
 use Rattle.std.proofs.Math.Option.{Option, none, some}
 use Rattle.text.specs.Same.{same_of}
 use Rattle.parts.specs.Answer.{Answer, no, yes, status_of, outcome_of}
-use Rattle.state.specs.Maps.{Text, ◌⟼◌, same_texts, is_empty, all}
-use Rattle.state.specs.Records.{AuthorityContext, no_faults, State, default}
+use Rattle.state.specs.Maps.{Text, ◌⟼◌, same_texts, is_empty}
+use Rattle.state.specs.Records.{AuthorityContext, no_faults, State}
 use Rattle.state.specs.Setters.{set_pins}
 use Rattle.machine.specs.Actions.{Action, ObserveCommittedFrontier, SetRetentionWindow, LeasesExpired}
-use Rattle.machine.specs.Edges.{Row, answers, answers_at, floors, ends, answers_loaded, ends_loaded, collects, validates, pins_are, precedes, keys, manifest, table}
+use Rattle.machine.specs.Edges.{Row, answers, answers_at, floors, ends, answers_loaded, ends_loaded, collects, validates, pins_are, precedes, keys, manifest}
 use Rattle.image.specs.Layout.{encode_image, decode_image}
 use Rattle.requests.specs.Request.{encode_request, encode_token}
 use Rattle.requests.specs.Outcome.{encode_outcome}
 use Rattle.entries.specs.Bytes.{apply_bytes, validate_bytes, test_bytes, default_bytes}
-use Rattle.entries.specs.Computes.{bytes_compute}
 
 abbrev pub room : ℕ
 room = 16384
@@ -75,12 +74,3 @@ on_bytes (ends_loaded load a l) = leaves (λ s. ends_all l (reply a (encode_imag
 on_bytes (validates load t n) = leaves (λ s. eqb (validate_bytes (encode_image (load s)) (encode_token t)) n) start
 on_bytes (pins_are before ids) = leaves (λ s. same_texts (keys s.pins) ids) (run start before)
 on_bytes (precedes a b) = leaves (λ s. eqb (tested (a ∷ b ∷ []) s) 0 && eqb (tested (b ∷ a ∷ []) s) 40) start
-
-pub byte_edges : all on_bytes table ≡ true
-unfolding bytes_compute
-byte_edges = refl
-
--- E1 through its entry: the default image, and nothing else
-pub default-entry : default_bytes room ≡ yes (encode_image default) []
-unfolding bytes_compute
-default-entry = refl

@@ -16,9 +16,10 @@ use Rattle.text.specs.declared.Order.{Order}
 use Rattle.text.specs.Utf8.{utf8}
 use Rattle.state.specs.Maps.{is_less}
 use Rattle.fields.specs.Format.{Malformed, OverLimit, NotUtf8, Res, ok, bad, bind, byte, many, read_kind, read_text, after, rows, itself, read_set}
-use Rattle.fields.specs.FormatLaws.{text-shape}
+use Rattle.fields.proofs.FormatLaws.{text-shape}
 use Rattle.fields.specs.Codes.{Code, then_none, set_most, key_limit, read_flag, step, advance, walk, code_of, codes_of}
-use Rattle.fields.specs.Walks.{place_of, end-at, walk_of, step_of, onward, part, Ended, ended, faulted, stepped, stopped, text-leaves, advance-leaves, walk-leaves}
+use Rattle.fields.specs.Walks.{place_of, walk_of, step_of, onward, part, Ended}
+use Rattle.fields.proofs.WalkLaws.{end-at, ended, faulted, stepped, stopped, text-leaves, advance-leaves, walk-leaves}
 use Rattle.fields.specs.Rows.{text_here, walk_rows}
 use Rattle.fields.specs.declared.Walk.{Walk}
 use Rattle.fields.specs.declared.Walk.TheVariants.{End, Fault}

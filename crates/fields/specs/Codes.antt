@@ -1,13 +1,6 @@
 -- A format as a flat list of codes, for a loop. The checked walk finds the first fault as `dec` does; the skip walk hops to where `dec` ends.
-use Rattle.std.specs.Prelude.{ℕ, zero, suc, ◌+◌, ◌-◌, ◌≤◌, ◌<◌, ◌≡◌, refl, Bool, true, false, cond, ◌&&◌, List, [], ◌∷◌, ◌++◌, map, leb, ltb, eqb, length, take, drop}
-use Rattle.std.proofs.Common.{arith, sym, ap, ◌∙◌, append_assoc, append-nil, lt-ltb, le-ltb, ne_eqb, ltb-true, leb-true, eqb-true}
-use Rattle.std.proofs.Math.Option.{Option, none, some}
-use Rattle.std.proofs.lemmas.List.{length-map}
-use Rattle.state.specs.Maps.{Text}
-use Rattle.text.specs.Utf8.{utf8}
-use Rattle.text.specs.SameLaws.{and_left, and_right}
-use Rattle.fields.specs.Format.{Malformed, OverLimit, NotUtf8, Res, ok, bad, bind, byte, many, read_number, read_kind, read_option, read_text, after, rows, itself, read_set, Field, nothing, number, kind, text, option, set, ◌▹◌, El, dec}
-use Rattle.fields.specs.FormatLaws.{never, bind_ok, check-ok, byte-ok}
+use Rattle.std.specs.Prelude.{ℕ, zero, suc, ◌+◌, ◌-◌, Bool, true, false, cond, ◌&&◌, List, [], ◌∷◌, ◌++◌, map, leb, ltb, eqb, length, drop}
+use Rattle.fields.specs.Format.{Malformed, Res, ok, bad, bind, byte, many, read_kind, read_text, after, read_set, Field, nothing, number, kind, text, option, set, ◌▹◌}
 
 pub data Code : Type 0 where
   a_number : (bytes : ℕ) → Code
@@ -53,51 +46,10 @@ unfoldable pub walk : ℕ → List Code → List ℕ → Res (Unit {0})
 walk k [] s = ok tt s
 walk k (c ∷ cs) s = bind (advance k c s) (λ n r. walk n cs r)
 
-pub bind-same : {A B : Type 0} (m : Res A) (k l : A → List ℕ → Res B) → ((v : A) (r : List ℕ) → m ≡ ok v r → k v r ≡ l v r) → bind m k ≡ bind m l
-bind-same (ok v r) k l h = h v r refl
-bind-same (bad e) k l h = refl
-
-pub bind-bind : {A B C : Type 0} (m : Res A) (k : A → List ℕ → Res B) (l : B → List ℕ → Res C) → bind (bind m k) l ≡ bind m (λ v r. bind (k v r) l)
-bind-bind (ok v r) k l = refl
-bind-bind (bad e) k l = refl
-
-walk-past : (ds cs : List Code) (s : List ℕ) → walk (length ds) (ds ++ cs) s ≡ walk zero cs s
-unfolding walk advance
-walk-past [] cs s = refl
-walk-past (d ∷ ds) cs s = walk-past ds cs s
-
-walk-maybe : {A : Type 0} (item : List ℕ → Res A) (ds cs : List Code) → ((s : List ℕ) → walk zero (ds ++ cs) s ≡ bind (item s) (λ _ r. walk zero cs r))
-    → (s : List ℕ) → walk zero (maybe (length ds) ∷ ds ++ cs) s ≡ bind (read_option item s) (λ _ r. walk zero cs r)
-unfolding walk advance step read_flag read_option
-walk-maybe item ds cs h [] = refl
-walk-maybe item ds cs h (zero ∷ s) = walk-past ds cs s
-walk-maybe item ds cs h (suc zero ∷ s) = h s ∙ sym (bind-bind (item s) _ _)
-walk-maybe item ds cs h (suc (suc k) ∷ s) = refl
-
--- THE CHECKED WALK IS `dec`, and then the walk over what follows
-pub walk-dec : (f : Field) (cs : List Code) (s : List ℕ) → walk zero (codes f ++ cs) s ≡ bind (dec f s) (λ _ r. walk zero cs r)
-unfolding walk advance step codes dec read_number
-walk-dec nothing cs s = refl
-walk-dec (number k) cs s = bind-bind (many k s) _ _ ∙ sym (bind-bind (many k s) _ _)
-walk-dec kind cs s = bind-bind (read_kind s) _ _
-walk-dec (text n) cs s = bind-bind (read_text n s) _ _
-walk-dec (option f) cs s = walk-maybe (dec f) (codes f) cs (walk-dec f cs) s
-walk-dec (set m n) cs s = bind-bind (read_set m n s) _ _
-walk-dec (f ▹ g) cs s =
-    rw append_assoc (walk-dec f (codes g ++ cs) s ∙ bind-same (dec f s) _ _ (λ v r _. walk-dec g cs r ∙ sym (bind-bind (dec g r) _ _)) ∙ sym (bind-bind (dec f s) _ _))
-
 -- what was read, with the values forgotten
 abbrev pub forget : {A : Type 0} → Res A → Res (Unit {0})
 forget (ok v r) = ok tt r
 forget (bad e) = bad e
-
-forget-is : {A : Type 0} (m : Res A) → bind m (λ _ r. ok tt r) ≡ forget m
-forget-is (ok v r) = refl
-forget-is (bad e) = refl
-
-pub walk-codes : (f : Field) (s : List ℕ) → walk zero (codes f) s ≡ forget (dec f s)
-unfolding walk
-walk-codes f s = ap (λ (cs : List Code). walk zero cs s) (sym (append-nil (codes f))) ∙ walk-dec f [] s ∙ forget-is (dec f s)
 
 -- ---- the skip walk
 
@@ -142,78 +94,6 @@ skip k [] s = s
 skip (suc k) (c ∷ cs) s = skip k cs s
 skip zero (c ∷ cs) s = skip (passed c s) cs (past c s)
 
-pub many-rest : (n : ℕ) (s t r : List ℕ) → many n s ≡ ok t r → drop n s ≡ r
-unfolding many
-many-rest n s t r h = let (b, e) = check-ok (leb n (length s)) Malformed (ok (take n s) (drop n s)) t r h in cc
-
-pub kind-rest : (s : List ℕ) (v : El kind) (r : List ℕ) → read_kind s ≡ ok v r → drop 1 s ≡ r
-unfolding read_kind
-kind-rest [] v r h = cc
-kind-rest (zero ∷ s) v r h = cc
-kind-rest (suc zero ∷ s) v r h = cc
-kind-rest (suc (suc k) ∷ s) v r h = cc
-
-pub text-rest : (n : ℕ) (s t r : List ℕ) → read_text n s ≡ ok t r → hop s ≡ r
-unfolding read_text hop
-text-rest n s t r h =
-    let (k, r₁, e₁, h₁) = bind_ok (byte s) _ t r h in
-    let (c, h₂) = check-ok (leb k n) OverLimit _ t r h₁ in
-    let (v, r₂, e₂, h₃) = bind_ok (many k r₁) _ t r h₂ in
-    let (g, h₄) = check-ok (utf8 v) NotUtf8 (ok v r₂) t r h₃ in
-    let e : r₂ ≡ r = cc in
-    rw (byte-ok s k r₁ e₁) (many-rest k r₁ v r₂ e₂ ∙ e)
-
-pub texts_rest : (n k : ℕ) (p : Option Text) (s : List ℕ) (ts : List Text) (r : List ℕ) → rows (read_text n) itself k p s ≡ ok ts r → hops k s ≡ r
-unfolding rows hops
-texts_rest n zero p s ts r h = cc
-texts_rest n (suc k) p s ts r h =
-    let (v, r₁, e₁, h₁) = bind_ok (read_text n s) _ ts r h in
-    let (a, h₂) = check-ok (after p v) Malformed _ ts r h₁ in
-    let (ws, r₂, e₂, h₃) = bind_ok (rows (read_text n) itself k (some v) r₁) _ ts r h₂ in
-    let e : r₂ ≡ r = cc in
-    rw (text-rest n s v r₁ e₁) (texts_rest n k (some v) r₁ ws r₂ e₂ ∙ e)
-
-pub set_rest : (m n : ℕ) (s : List ℕ) (ts : List Text) (r : List ℕ) → read_set m n s ≡ ok ts r → hop_set s ≡ r
-unfolding read_set hop_set
-set_rest m n s ts r h =
-    let (k, r₁, e₁, h₁) = bind_ok (byte s) _ ts r h in
-    let (c, h₂) = check-ok (leb k m) OverLimit _ ts r h₁ in
-    rw (byte-ok s k r₁ e₁) (texts_rest n k none r₁ ts r h₂)
-
-skip-over : (ds cs : List Code) (s : List ℕ) → skip (length ds) (ds ++ cs) s ≡ skip zero cs s
-unfolding skip
-skip-over [] cs s = refl
-skip-over (d ∷ ds) cs s = skip-over ds cs s
-
-skip-maybe : {A : Type 0} (item : List ℕ → Res A) (ds cs : List Code) → ((s : List ℕ) (v : A) (r : List ℕ) → item s ≡ ok v r → skip zero (ds ++ cs) s ≡ skip zero cs r)
-    → (s : List ℕ) (o : Option A) (r : List ℕ) → read_option item s ≡ ok o r → skip zero (maybe (length ds) ∷ ds ++ cs) s ≡ skip zero cs r
-unfolding skip past passed read_option
-skip-maybe item ds cs h [] o r e = absurd (never Malformed o r e)
-skip-maybe item ds cs h (zero ∷ s) o r e = let q : s ≡ r = cc in skip-over ds cs s ∙ ap (skip zero cs) q
-skip-maybe item ds cs h (suc zero ∷ s) o r e =
-    let (v, r₁, e₁, h₁) = bind_ok (item s) _ o r e in
-    let q : r₁ ≡ r = cc in
-    h s v r₁ e₁ ∙ ap (skip zero cs) q
-skip-maybe item ds cs h (suc (suc k) ∷ s) o r e = absurd (never Malformed o r e)
-
--- THE SKIP WALK ENDS WHERE `dec` DOES, on bytes that it accepts
-pub skip-dec : (f : Field) (cs : List Code) (s : List ℕ) (v : El f) (r : List ℕ) → dec f s ≡ ok v r → skip zero (codes f ++ cs) s ≡ skip zero cs r
-unfolding skip past passed codes dec read_number
-skip-dec nothing cs s v r h = let q : s ≡ r = cc in ap (skip zero cs) q
-skip-dec (number k) cs s v r h =
-    let (t, r₁, e₁, h₁) = bind_ok (many k s) _ v r h in
-    let q : r₁ ≡ r = cc in
-    ap (skip zero cs) (many-rest k s t r₁ e₁ ∙ q)
-skip-dec kind cs s v r h = ap (skip zero cs) (kind-rest s v r h)
-skip-dec (text n) cs s v r h = ap (skip zero cs) (text-rest n s v r h)
-skip-dec (option f) cs s v r h = skip-maybe (dec f) (codes f) cs (skip-dec f cs) s v r h
-skip-dec (set m n) cs s v r h = ap (skip zero cs) (set_rest m n s v r h)
-skip-dec (f ▹ g) cs s v r h =
-    let (x, r₁, e₁, h₁) = bind_ok (dec f s) _ v r h in
-    let (y, r₂, e₂, h₂) = bind_ok (dec g r₁) _ v r h₁ in
-    let q : r₂ ≡ r = cc in
-    rw append_assoc (skip-dec f (codes g ++ cs) s x r₁ e₁ ∙ skip-dec g cs r₁ y r₂ e₂ ∙ ap (skip zero cs) q)
-
 -- ---- the byte that stands for a code: a number's is its width, a text's its limit (at least 32)
 
 abbrev pub set_most : ℕ
@@ -251,37 +131,3 @@ has_shape (text n) = leb 32 n
 has_shape (option f) = ltb (length (shape f)) 21 && has_shape f
 has_shape (set m n) = eqb m set_most && eqb n key_limit
 has_shape (f ▹ g) = has_shape f && has_shape g
-
-text_code : (n : ℕ) → 32 ≤ n → code_of n ≡ a_text n
-unfolding code_of
-text_code n h = rw (le-ltb n 9 (omega arith), ne_eqb n 9 (omega arith), ne_eqb n 10 (omega arith), le-ltb n 32 h) refl
-
-option_code : (k : ℕ) → k < 21 → code_of (11 + k) ≡ maybe k
-unfolding code_of
-option_code k h =
-    let q : 11 + k - 11 ≡ k = omega arith in
-    rw (le-ltb (11 + k) 9 (omega arith), ne_eqb (11 + k) 9 (omega arith), ne_eqb (11 + k) 10 (omega arith), lt-ltb (11 + k) 32 (omega arith), q) refl
-
-codes-append : (xs ys : List ℕ) → codes_of (xs ++ ys) ≡ codes_of xs ++ codes_of ys
-unfolding codes_of
-codes-append [] ys = refl
-codes-append (x ∷ xs) ys = ap (λ (cs : List Code). code_of x ∷ cs) (codes-append xs ys)
-
--- THE BYTES OF A FORMAT STAND FOR ITS CODES
-pub shape-codes : (f : Field) → has_shape f ≡ true → codes_of (shape f) ≡ codes f
-unfolding codes code_of codes_of
-shape-codes nothing h = refl
-shape-codes (number k) h = rw h refl
-shape-codes kind h = refl
-shape-codes (text n) h = ap (λ (c : Code). c ∷ []) (text_code n (leb-true 32 n h))
-shape-codes (option f) h =
-    let s = shape-codes f (and_right (ltb (length (shape f)) 21) (has_shape f) h) in
-    let n : length (shape f) ≡ length (codes f) = sym (length-map (shape f) code_of) ∙ ap length s in
-    λ i. (option_code (length (shape f)) (ltb-true (length (shape f)) 21 (and_left (ltb (length (shape f)) 21) (has_shape f) h)) ∙ ap maybe n) i ∷ s i
-shape-codes (set m n) h =
-    let a : set_most ≡ m = sym (eqb-true m set_most (and_left (eqb m set_most) (eqb n key_limit) h)) in
-    let b : key_limit ≡ n = sym (eqb-true n key_limit (and_right (eqb m set_most) (eqb n key_limit) h)) in
-    λ i. a_set (a i) (b i) ∷ []
-shape-codes (f ▹ g) h =
-    codes-append (shape f) (shape g)
-    ∙ (λ i. shape-codes f (and_left (has_shape f) (has_shape g) h) i ++ shape-codes g (and_right (has_shape f) (has_shape g) h) i)

@@ -3,7 +3,7 @@ use Rattle.std.specs.Prelude.{ℕ, ◌^◌, ◌<◌, min, List, [], ◌∷◌, �
 use Rattle.std.proofs.Common.{append_assoc, sym, ap, ◌∙◌}
 use Rattle.parts.specs.Digits.{digits, value}
 use Rattle.state.specs.Maps.{Map, ◌⟼◌, key_of}
-use Rattle.state.specs.MapLaws.{Each}
+use Rattle.state.specs.Sorted.{Each}
 use Rattle.state.specs.Records.{SnapshotLeaseToken, State}
 use Rattle.fields.specs.Format.{Field, ◌▹◌, enc, all}
 use Rattle.fields.specs.Codes.{codes, skip}
@@ -14,11 +14,12 @@ use Rattle.image.specs.Layout.{leases, Formed}
 use Rattle.image.specs.Tables.{lease_row}
 use Rattle.image.specs.Opened.{Holds}
 use Rattle.image.specs.declared.Contents.{Contents}
-use Rattle.image.specs.Stored.{stored_in}
-use Rattle.image.specs.TableLaws.{table_in, behind, count-is, table_here}
+use Rattle.image.proofs.StoredLaws.{stored_in}
+use Rattle.image.specs.TableLaws.{table_in, behind}
+use Rattle.image.proofs.TablePlaceLaws.{count-is, table_here}
 use Rattle.machine.specs.Formed.{LeaseAt}
 use Rattle.machine.specs.Next.{oldest}
-use Rattle.entries.specs.Sized.{image_texts, well_formed}
+use Rattle.entries.proofs.Sized.{image_texts, well_formed}
 use Rattle.next.specs.Peeks.{skip-to, number-here}
 use Rattle.floor.specs.Floors.{oldest_at}
 

@@ -1,65 +1,26 @@
 -- What is stored in a state that has an image: its tables ascend, each record is within its format and under its own id, and the
 -- hops over the bytes of its tables find it.
-use Rattle.std.specs.Prelude.{ℕ, ◌+◌, ◌-◌, ◌≤◌, ◌≡◌, refl, true, length, take, drop}
-use Rattle.std.proofs.Common.{arith, ◌∙◌, length-append, length-drop}
-use Rattle.std.proofs.Math.Path.{ap}
-use mathlib.Core.List.{List, [], ◌∷◌, ◌++◌}
-use Rattle.std.proofs.Math.Option.{none, some}
-use Rattle.std.proofs.Math.Seq.{take-append_seam}
-use Rattle.text.specs.Order.{order_of}
-use Rattle.state.specs.Maps.{Text, is_less, Map, Entry, ◌⟼◌, key_of, lookup}
-use Rattle.state.specs.MapLaws.{is_less_true, Each, each-lookup}
-use Rattle.state.specs.Places.{ahead, at, behind}
-use Rattle.state.specs.Sorted.{Below, Ascending}
+use Rattle.std.specs.Prelude.{ℕ, ◌-◌, ◌≡◌}
+use Rattle.std.proofs.Math.Option.{some}
+use Rattle.state.specs.Maps.{Text, Map, Entry, ◌⟼◌, key_of, lookup}
+use Rattle.state.proofs.Places.{at}
+use Rattle.state.specs.Sorted.{Ascending}
 use Rattle.state.specs.Records.{State}
-use Rattle.fields.specs.Format.{all, after, ascends, Every, Rows, Field, El, enc, Within}
-use Rattle.fields.specs.FormatLaws.{and_true}
-use Rattle.fields.specs.Codes.{Code, key_limit, codes}
-use Rattle.tables.specs.Seek.{Seen, seek, placed, row_of as row-found}
-use Rattle.tables.specs.SeekLaws.{Hopped, hopped-row, seek_is}
-use Rattle.image.specs.Body.{row, id}
-use Rattle.image.specs.Shapes.{short, reference, prepared, lease_rest, job_rest, permit_rest}
-use Rattle.image.specs.Layout.{most_intents, most_roots, most_pins, most_reservations, most_leases, most_jobs, each, TableName, intents, roots, pins, reservations, leases, jobs, map_of, id_limit, under_id, row_in, Formed}
-use Rattle.image.specs.LayoutLaws.{reservations_own, leases_own, jobs_own}
-use Rattle.image.specs.Tables.{bytes_split}
+use Rattle.fields.specs.Format.{Every, Field, El, enc, Within}
+use Rattle.fields.specs.Codes.{codes}
+use Rattle.tables.specs.SeekLaws.{Hopped}
+use Rattle.image.specs.Body.{row}
+use Rattle.image.specs.Layout.{TableName, map_of, id_limit, under_id, row_in}
 
 -- ROWS OF A MAP: each entry as it is written, under its own key
 module _ {A B : Type 0} (at : Entry A → Text × B) where
   abbrev pub OwnKey : Entry A → Type 0
   OwnKey e = (at e).0 ≡ key_of e
 
-  below_of : (m : Map A) (k : Text) → Every OwnKey m → ascends id (some k) (each at m) ≡ true → Below k m × Ascending m
-  unfolding each ascends after
-  below_of [] k o a = (tt, tt)
-  below_of ((j ⟼ v) ∷ m) k o a =
-      let (a₀, a₁) = and_true (is_less (order_of k (at (j ⟼ v)).0)) (ascends id (some (at (j ⟼ v)).0) (each at m)) a in
-      (is_less_true (order_of k j) (rw o.0 at a₀), below_of m j o.1 (rw o.0 at a₁))
-
-  pub ascending_of : (m : Map A) → Every OwnKey m → ascends id none (each at m) ≡ true → Ascending m
-  unfolding each ascends after
-  ascending_of [] o a = tt
-  ascending_of ((j ⟼ v) ∷ m) o a = below_of m j o.1 (rw o.0 at a)
-
-  pub each_of : (W : Text × B → Type 0) (P : Text → A → Type 0) → ((k : Text) (v : A) → OwnKey (k ⟼ v) → W (at (k ⟼ v)) → P k v)
-      → (m : Map A) → Every OwnKey m → Every W (each at m) → Each P m
-  unfolding each
-  each_of W P f [] o h = tt
-  each_of W P f ((k ⟼ v) ∷ m) o h = (f k v o.0 h.0, each_of W P f m o.1 h.1)
-
-pub own_keys : {A : Type 0} (m : Map A) → Every (λ e. key_of e ≡ key_of e) m
-own_keys [] = tt
-own_keys (e ∷ m) = (refl, own_keys m)
-
 -- written by a format of rows: within it, and hopped over
 module _ {A : Type 0} (n : ℕ) (f : Field) (at : Entry A → El (row n f)) where
-  abbrev StoredAt : Text → A → Type 0
+  abbrev pub StoredAt : Text → A → Type 0
   StoredAt k v = OwnKey at (k ⟼ v) × Within (row n f) (at (k ⟼ v))
-
-  hopped-each : (m : Map A) → Each StoredAt m → Every (Hopped (codes (row n f)) (λ e. enc (row n f) (at e)) key_of) m
-  hopped-each [] h = tt
-  hopped-each ((k ⟼ v) ∷ m) h =
-      let z = hopped-row n f (at (k ⟼ v)) h.0.1 in
-      (record { head = λ r. z.head r ∙ h.0.0; over = z.over }, hopped-each m h.1)
 
   -- what is known of a table
   pub record Stored (m : Map A) : Type 0 where
@@ -67,52 +28,6 @@ module _ {A : Type 0} (n : ℕ) (f : Field) (at : Entry A → El (row n f)) wher
     pub found : (k : Text) (v : A) → lookup k m ≡ some v → OwnKey at (k ⟼ v) × Within (row n f) (at (k ⟼ v))
     pub hopped : Every (Hopped (codes (row n f)) (λ e. enc (row n f) (at e)) key_of) m
 
-  stored : (most : ℕ) (m : Map A) → Every (OwnKey at) m → Rows (Within (row n f)) id most (each at m) → Stored m
-  stored most m own rows =
-      let h : Each StoredAt m = each_of at (Within (row n f)) StoredAt (λ k v o w. (o, w)) m own rows.each in
-      record { ascending = ascending_of at m own rows.ascending; found = λ k v. each-lookup StoredAt k v m h; hopped = hopped-each m h }
-
 -- EVERY TABLE
 abbrev pub StoredIn : TableName → State → Type 0
 StoredIn t s = Stored (id_limit t) (under_id t) (row_in t) (map_of t s)
-
-pub stored_in : (t : TableName) (s : State) → Formed s → StoredIn t s
-stored_in intents s f = stored short prepared (row_in intents) most_intents s.intents (own_keys s.intents) f.fits.1.0
-stored_in roots s f = stored short reference (row_in roots) most_roots s.roots (own_keys s.roots) f.fits.1.1.0
-stored_in pins s f = stored short reference (row_in pins) most_pins s.pins (own_keys s.pins) f.fits.1.1.1.0
-stored_in reservations s f = stored key_limit permit_rest (row_in reservations) most_reservations s.deletion_reservations (reservations_own s f) f.fits.1.1.1.1.0
-stored_in leases s f = stored short lease_rest (row_in leases) most_leases s.leases (leases_own s f) f.fits.1.1.1.1.1.0
-stored_in jobs s f = stored short job_rest (row_in jobs) most_jobs s.collection_jobs (jobs_own s f) f.fits.1.1.1.1.1.1.0
-
--- LOOKUP BY ID in a table that stands at a place: the row's bytes, none where there is no such row, and its places
-pub front : (a b : List ℕ) → take (length (a ++ b) - length b) (a ++ b) ≡ a
-front a b = let z : length (a ++ b) - length b ≡ length a = omega (arith, length-append a b) in ap (λ (n : ℕ). take n (a ++ b)) z ∙ take-append_seam a b
-
-module _ {A : Type 0} (cs : List Code) (write : Entry A → List ℕ) (x : List ℕ) (p : ℕ) (m : Map A) (r : List ℕ)
-    (here : drop p x ≡ all write m ++ r) (hops : Every (Hopped cs write key_of) m) (k : Text)
-  where
-    abbrev found_at : Seen
-    found_at = record { from = all write (at k m) ++ (all write (behind k m) ++ r); to = all write (behind k m) ++ r }
-
-    found-is : seek cs (length m) k (drop p x) ≡ found_at
-    found-is = ap (seek cs (length m) k) here ∙ seek_is cs write k m r hops
-
-    pub find_row : row-found (seek cs (length m) k (drop p x)) ≡ all write (at k m)
-    unfolding row-found
-    find_row = ap row-found found-is ∙ front (all write (at k m)) (all write (behind k m) ++ r)
-
-    pub find_place : p ≤ length x
-        → placed x (seek cs (length m) k (drop p x)) ≡ record { start = p + length (all write (ahead k m)); end = p + length (all write (ahead k m)) + length (all write (at k m)) }
-    find_place fits =
-        let a = all write (ahead k m) in
-        let b = all write (at k m) in
-        let c = all write (behind k m) in
-        let l : length (drop p x) ≡ length x - p = length-drop p x in
-        let n : length (drop p x) ≡ length (all write m) + length r = ap length here ∙ length-append (all write m) r in
-        let s : length (all write m) ≡ length a + length (b ++ c) = ap length (bytes_split write k m) ∙ length-append a (b ++ c) in
-        let bc : length (b ++ c) ≡ length b + length c = length-append b c in
-        let cr : length (c ++ r) ≡ length c + length r = length-append c r in
-        let bcr : length (b ++ (c ++ r)) ≡ length b + length (c ++ r) = length-append b (c ++ r) in
-        let start_is : length x - length (b ++ (c ++ r)) ≡ p + length a = omega arith in
-        let end_is : length x - length (c ++ r) ≡ p + length a + length b = omega arith in
-        ap (placed x) found-is ∙ (λ i. record { start = start_is i; end = end_is i })

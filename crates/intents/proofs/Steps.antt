@@ -13,7 +13,8 @@ use Rattle.parts.specs.Digits.{value}
 use Rattle.state.specs.Maps.{is_empty}
 use Rattle.fields.specs.Codes.{Code, skip}
 use Rattle.fields.specs.Rows.{text_here}
-use Rattle.fields.specs.Walks.{Rest, place_of, rest-place}
+use Rattle.fields.specs.Walks.{Rest, place_of}
+use Rattle.fields.proofs.WalkLaws.{rest-place}
 use Rattle.tables.specs.Skips.{skip-rest}
 use Rattle.intents.specs.Tests.{from_manifest, from_root, from_prior, matches_in, differs_in, crosses_in, missing_in}
 

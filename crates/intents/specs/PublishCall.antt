@@ -10,7 +10,7 @@ use Rattle.text.specs.Same.{same_of}
 use Rattle.parts.specs.Answer.{longest}
 use Rattle.parts.specs.Gather.{run, gather_of}
 use Rattle.state.specs.Maps.{Text, ◌⟼◌, lookup, insert, remove}
-use Rattle.state.specs.Places.{ahead, behind}
+use Rattle.state.proofs.Places.{ahead, behind}
 use Rattle.state.specs.Records.{State, ObjectReference}
 use Rattle.state.specs.Setters.{set_revision, set_intents, set_roots}
 use Rattle.fields.specs.Format.{enc, enc_text, option, all}
@@ -18,13 +18,14 @@ use Rattle.fields.specs.Codes.{codes_of, shape}
 use Rattle.tables.specs.Seek.{seek, placed}
 use Rattle.tables.specs.declared.Place.{Place}
 use Rattle.image.specs.Shapes.{reference, reference_parts, each_option}
-use Rattle.image.specs.Tables.{bytes-remove}
+use Rattle.image.proofs.TableRowLaws.{bytes-remove}
 use Rattle.image.specs.Layout.{intents, roots, row_format}
 use Rattle.image.specs.ImageParts.{row_bytes, table_of, tables_of, joined, Measure, measure, measures}
 use Rattle.image.specs.Opened.{measure_in, measures_in, Shows}
-use Rattle.image.specs.OpenedLaws.{run-to, after_seam}
-use Rattle.image.specs.Stored.{stored_in}
-use Rattle.image.specs.TableLaws.{table_in, tables_place, behind as behind-table, table-starts, measures-set}
+use Rattle.image.proofs.OpenedLaws.{run-to, after_seam}
+use Rattle.image.proofs.StoredLaws.{stored_in}
+use Rattle.image.specs.TableLaws.{table_in, tables_place, behind as behind-table}
+use Rattle.image.proofs.TablePlaceLaws.{table-starts, measures-set}
 use Rattle.image.specs.Front.{Small}
 use Rattle.image.specs.declared.Table.{Table}
 use Rattle.image.specs.declared.Contents.{Contents}
@@ -32,7 +33,7 @@ use Rattle.machine.specs.Actions.{Rule, rejected, accepted, decide, Applied}
 use Rattle.machine.specs.Machine.{act, publish}
 use Rattle.machine.specs.Next.{root_published}
 use Rattle.machine.specs.Tests.{Refusal, first_of}
-use Rattle.machine.specs.TestLaws.{Agrees, ◌then◌, first-refuses, first_decides}
+use Rattle.machine.proofs.TestLaws.{Agrees, ◌then◌, first-refuses, first_decides}
 use Rattle.requests.specs.Meaning.{text_of, reference_of, maybe_reference_of, context_of, faults_of, position_of, action_of}
 use Rattle.requests.specs.declared.AuthorityContext.{AuthorityContext as ContextAt}
 use Rattle.requests.specs.declared.PublicationAuthorityFaults.{PublicationAuthorityFaults as FaultsAt}

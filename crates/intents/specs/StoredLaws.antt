@@ -11,17 +11,21 @@ use Rattle.parts.specs.Digits.{digits, value}
 use Rattle.parts.specs.DigitLaws.{length_digits}
 use Rattle.state.specs.Maps.{Text, Map, lookup, is_some, is_empty, same_option, contains}
 use Rattle.state.specs.Sorted.{Ascending}
-use Rattle.state.specs.Places.{at}
+use Rattle.state.proofs.Places.{at}
 use Rattle.state.specs.Records.{ObjectReference, PreparedPublication, reference_eq}
 use Rattle.fields.specs.Format.{◌▹◌, enc, enc_text, option, all, Within}
-use Rattle.fields.specs.Codes.{skip, set_most, key_limit, shape-codes}
-use Rattle.fields.specs.Rows.{text_here, text-there}
-use Rattle.sets.specs.Sets.{set_of, set_of-enc}
+use Rattle.fields.specs.Codes.{skip, set_most, key_limit}
+use Rattle.fields.proofs.CodeLaws.{shape-codes}
+use Rattle.fields.specs.Rows.{text_here}
+use Rattle.fields.proofs.RowLaws.{text-there}
+use Rattle.sets.specs.Sets.{set_of}
+use Rattle.sets.proofs.SetLaws.{set_of-enc}
 use Rattle.image.specs.Shapes.{short, u64, name, keys, reference, prepared, reference_parts, prepared_parts, each_option}
 use Rattle.image.specs.Layout.{row_of}
 use Rattle.image.specs.Tables.{intent_row}
-use Rattle.image.specs.Stored.{Stored, front}
-use Rattle.image.specs.SameBytes.{same-reference, same_prior}
+use Rattle.image.specs.Stored.{Stored}
+use Rattle.image.proofs.StoredLaws.{front}
+use Rattle.image.proofs.SameBytes.{same-reference, same_prior}
 use Rattle.machine.specs.Machine.{fails, intent_matches}
 use Rattle.next.specs.Edit.{Standing, absent, present, standing}
 use Rattle.next.specs.Peeks.{skip-to, number-here}

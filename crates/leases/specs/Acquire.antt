@@ -8,7 +8,7 @@ use Rattle.std.proofs.Math.Dec.{ltb}
 use borrow.Author.Tests.{ltb-true, ltb-false}
 use Rattle.parts.specs.Gather.{gather_of}
 use Rattle.state.specs.Maps.{Text, is_some, has_key, insert}
-use Rattle.state.specs.MapLaws.{by_test}
+use Rattle.state.proofs.MapLaws.{by_test}
 use Rattle.state.specs.Records.{SnapshotLeaseToken, State}
 use Rattle.state.specs.Setters.{set_revision}
 use Rattle.fields.specs.Format.{enc}
@@ -27,7 +27,7 @@ use Rattle.machine.specs.Actions.{rejected, accepted, Rule, decide, LeaseAcquire
 use Rattle.machine.specs.Machine.{act, acquire_lease}
 use Rattle.machine.specs.Next.{up, acquired, new_lease}
 use Rattle.machine.specs.Tests.{Refusal, first_of}
-use Rattle.machine.specs.TestLaws.{Agrees, ◌then◌, first-refuses, first-passed, first_decides}
+use Rattle.machine.proofs.TestLaws.{Agrees, ◌then◌, first-refuses, first-passed, first_decides}
 use Rattle.requests.specs.Request.{acquire}
 use Rattle.requests.specs.Outcome.{encode_outcome}
 use Rattle.requests.specs.Meaning.{text_of, keys_of, position_of, context_of, faults_of, closure_of, action_of, lease_token_of, request_of}

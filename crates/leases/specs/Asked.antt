@@ -14,7 +14,7 @@ use Rattle.fields.specs.Format.{Field, ◌▹◌, enc, enc_text}
 use Rattle.image.specs.Shapes.{u64, name, closure, lease, lease_parts, closure_parts}
 use Rattle.machine.specs.Next.{up, new_lease}
 use Rattle.requests.specs.Request.{acquire}
-use Rattle.image.specs.OpenedLaws.{run-to, after_seam}
+use Rattle.image.proofs.OpenedLaws.{run-to, after_seam}
 
 module _ (q : List ℕ) (id tenant : Text) (version : ℕ) (owner purpose : Text) (deadline : ℕ) (k : SnapshotClosure)
     (here : drop 27 q ≡ enc acquire (id, (tenant, (version, (owner, (purpose, (deadline, closure_parts k)))))))

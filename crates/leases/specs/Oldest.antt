@@ -7,11 +7,13 @@ use mathlib.Core.List.{List, [], ◌∷◌, ◌++◌}
 use Rattle.std.proofs.Math.Path.{refl, ap}
 use Rattle.parts.specs.Digits.{value}
 use Rattle.state.specs.Maps.{Text, same, Map, Every, ◌⟼◌, key_of, remove, insert}
-use Rattle.state.specs.Places.{ahead, at, behind, split_is, insert-is}
-use Rattle.state.specs.MapLaws.{Each, by_test}
+use Rattle.state.proofs.Places.{ahead, at, behind, split_is, insert-is}
+use Rattle.state.proofs.MapLaws.{by_test}
+use Rattle.state.specs.Sorted.{Each}
 use Rattle.state.specs.Records.{SnapshotLeaseToken, State}
 use Rattle.fields.specs.Format.{all}
-use Rattle.fields.specs.Codes.{Code, codes, skip, codes_of, shape, shape-codes}
+use Rattle.fields.specs.Codes.{Code, codes, skip, codes_of, shape}
+use Rattle.fields.proofs.CodeLaws.{shape-codes}
 use Rattle.fields.specs.Walks.{place_of}
 use Rattle.fields.specs.Rows.{text_here}
 use Rattle.tables.specs.Seek.{rows_at}
@@ -20,12 +22,13 @@ use Rattle.image.specs.Shapes.{lease, before_version}
 use Rattle.image.specs.Layout.{leases, Formed}
 use Rattle.image.specs.Tables.{lease_row}
 use Rattle.image.specs.Opened.{Holds}
-use Rattle.image.specs.Stored.{stored_in}
-use Rattle.image.specs.TableLaws.{table_in, behind as rows_behind, count-is, table_here}
+use Rattle.image.proofs.StoredLaws.{stored_in}
+use Rattle.image.specs.TableLaws.{table_in, behind as rows_behind}
+use Rattle.image.proofs.TablePlaceLaws.{count-is, table_here}
 use Rattle.image.specs.declared.Contents.{Contents}
 use Rattle.machine.specs.Formed.{LeaseAt}
 use Rattle.machine.specs.Next.{oldest}
-use Rattle.entries.specs.Sized.{image_texts, well_formed}
+use Rattle.entries.proofs.Sized.{image_texts, well_formed}
 use Rattle.expiry.specs.Due.{rows_none, rows_next}
 use Rattle.floor.specs.Oldest.{version-row}
 

@@ -7,7 +7,8 @@ use Rattle.parts.specs.Gather.{run}
 use Rattle.state.specs.Maps.{Text, ◌⟼◌, remove}
 use Rattle.state.specs.Records.{State}
 use Rattle.state.specs.Setters.{set_revision}
-use Rattle.fields.specs.Codes.{codes, codes_of, skip, shape, shape-codes}
+use Rattle.fields.specs.Codes.{codes, codes_of, skip, shape}
+use Rattle.fields.proofs.CodeLaws.{shape-codes}
 use Rattle.tables.specs.Seek.{rows_at}
 use Rattle.tables.specs.declared.Place.{Place}
 use Rattle.image.specs.Layout.{leases}
@@ -22,7 +23,7 @@ use Rattle.machine.specs.Actions.{rejected, accepted, Rule, decide, Applied}
 use Rattle.machine.specs.Machine.{act, release_lease}
 use Rattle.machine.specs.Next.{up, released}
 use Rattle.machine.specs.Tests.{Refusal, first_of}
-use Rattle.machine.specs.TestLaws.{Agrees, ◌then◌, first-refuses, first-passed, first_decides}
+use Rattle.machine.proofs.TestLaws.{Agrees, ◌then◌, first-refuses, first-passed, first_decides}
 use Rattle.requests.specs.Meaning.{text_of, position_of, context_of, faults_of, action_of}
 use Rattle.requests.specs.declared.PublicationAction.{PublicationAction}
 use Rattle.requests.specs.declared.ReleaseLease.{ReleaseLease as ReleaseLeaseAt}

@@ -11,7 +11,7 @@ use Rattle.state.specs.Maps.{Text, insert}
 use Rattle.state.specs.Records.{SnapshotLeaseToken, State}
 use Rattle.state.specs.Setters.{set_revision}
 use Rattle.fields.specs.Format.{◌▹◌, enc}
-use Rattle.fields.specs.FormatLaws.{dec-enc}
+use Rattle.fields.proofs.FormatLaws.{dec-enc}
 use Rattle.tables.specs.declared.Place.{Place}
 use Rattle.image.specs.Layout.{reservations, leases}
 use Rattle.image.specs.Front.{Small}
@@ -25,13 +25,14 @@ use Rattle.machine.specs.Actions.{rejected, accepted, Rule, decide, LeaseRenewed
 use Rattle.machine.specs.Machine.{act, renew_lease, any_reserved}
 use Rattle.machine.specs.Next.{up, renewed, renewed_lease}
 use Rattle.machine.specs.Tests.{Refusal, first_of}
-use Rattle.machine.specs.TestLaws.{Agrees, ◌then◌, first-refuses, first-passed, first_decides}
+use Rattle.machine.proofs.TestLaws.{Agrees, ◌then◌, first-refuses, first-passed, first_decides}
 use Rattle.requests.specs.Outcome.{encode_outcome}
 use Rattle.requests.specs.Meaning.{text_of, keys_of, position_of, context_of, faults_of, action_of, lease_token_of}
 use Rattle.requests.specs.Positions.{behind, lease_token_in}
-use Rattle.requests.specs.Peek.{peek, peek-dec}
-use Rattle.requests.specs.PositionLaws.{Written, first, second, behind-written, behind-number, behind-text, text-place, text-end, closure-end, closure-within}
-use Rattle.requests.specs.PositionMeaning.{lease_means}
+use Rattle.requests.specs.Peek.{peek}
+use Rattle.requests.proofs.PeekLaws.{peek-dec}
+use Rattle.requests.proofs.PositionLaws.{Written, first, second, behind-written, behind-number, behind-text, text-place, text-end, closure-end, closure-within}
+use Rattle.requests.proofs.PositionMeaning.{lease_means}
 use Rattle.requests.specs.declared.SnapshotLeaseToken.{SnapshotLeaseToken as LeaseTokenAt}
 use Rattle.requests.specs.declared.PublicationAction.{PublicationAction}
 use Rattle.requests.specs.declared.RenewLease.{RenewLease as RenewLeaseAt}

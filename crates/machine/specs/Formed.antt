@@ -4,7 +4,7 @@
 use Rattle.std.specs.Prelude.{ℕ, ◌<◌, ◌^◌, ◌≡◌, List}
 use Rattle.std.proofs.Math.Option.{Option, none, some}
 use Rattle.state.specs.Maps.{Text, Map, Every}
-use Rattle.state.specs.MapLaws.{Each}
+use Rattle.state.specs.Sorted.{Each}
 use Rattle.state.specs.Sorted.{Ascending, Rising}
 use Rattle.state.specs.Sort.{Pairs, Differ}
 use Rattle.state.specs.Records.{AuthorityPosition, AuthorityContext, RevisionToken, ObjectIdentity, ObjectReference, PublicationIntent, PreparedPublication, SnapshotClosure, SnapshotLeaseToken, CollectionJobToken, CollectionReceipt, DeletePermit, State}

@@ -3,17 +3,8 @@ pub mod Actions
 pub mod Next
 pub mod Machine
 pub mod Tests
-pub mod TestLaws
-pub mod ExpiredLaws
-pub mod ApplyLaws
 pub mod Computes
 pub mod Edges
 pub mod Ledger
 pub mod Claims
-pub mod LedgerLaws
-pub mod Invariant
-pub mod History
 pub mod Formed
-pub mod FormedLaws
-pub mod Statuses
-pub mod Corners

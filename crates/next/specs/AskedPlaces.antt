@@ -5,8 +5,8 @@ use Rattle.image.specs.declared.Contents.{Contents}
 use Rattle.requests.specs.Request.{action_parts}
 use Rattle.requests.specs.Meaning.{text_of, action_of, request_of}
 use Rattle.requests.specs.Positions.{acquire_in, collect_in, receipt_in, reserve_in, action_in}
-use Rattle.requests.specs.PositionLaws.{Written, first, text-length}
-use Rattle.requests.specs.RequestPlaces.{fields_written, acquire-lease_id, acquire-owner, acquire-end, collect-job_id, collect-frozen_floor, collect-end, receipt-job_id, receipt-end, reserve-plan_id, reserve-key, reserve-end}
+use Rattle.requests.proofs.PositionLaws.{Written, first, text-length}
+use Rattle.requests.proofs.RequestPlaces.{fields_written, acquire-lease_id, acquire-owner, acquire-end, collect-job_id, collect-frozen_floor, collect-end, receipt-job_id, receipt-end, reserve-plan_id, reserve-key, reserve-end}
 use Rattle.requests.specs.declared.AuthorityContext.{AuthorityContext as ContextAt}
 use Rattle.requests.specs.declared.PublicationAuthorityFaults.{PublicationAuthorityFaults as FaultsAt}
 use Rattle.requests.specs.declared.PublicationAction.{PublicationAction}

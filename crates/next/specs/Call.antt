@@ -9,12 +9,13 @@ use Rattle.state.specs.Records.{State, valid_context}
 use Rattle.state.specs.Setters.{set_revision}
 use Rattle.machine.specs.Actions.{Outcome, Transition, rejected, accepted, decide}
 use Rattle.machine.specs.Machine.{act, apply}
-use Rattle.machine.specs.ApplyLaws.{apply_accepts, apply_rejects}
+use Rattle.machine.proofs.ApplyLaws.{apply_accepts, apply_rejects}
 use Rattle.image.specs.Contents.{answer}
 use Rattle.image.specs.Layout.{decode_image, Formed}
 use Rattle.image.specs.ImageParts.{tables_of, joined}
 use Rattle.image.specs.Opened.{Shows, Holds}
-use Rattle.image.specs.Front.{front_of, contents_over_limit, image-shown, limits_shown}
+use Rattle.image.specs.Front.{front_of, contents_over_limit}
+use Rattle.image.proofs.FrontLaws.{image-shown, limits_shown}
 use Rattle.image.specs.declared.Contents.{Contents}
 use Rattle.requests.specs.Request.{decode_request, encode_request, WithinRequest}
 use Rattle.requests.specs.Outcome.{encode_outcome}

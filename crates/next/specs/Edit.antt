@@ -6,22 +6,22 @@ use Rattle.std.proofs.Math.Option.{none, some}
 use Rattle.std.proofs.Math.Path.{refl, ap}
 use Rattle.std.proofs.Math.ListN.{length, length-append}
 use Rattle.text.specs.Order.{order_of}
-use Rattle.text.specs.OrderLaws.{order_equal}
+use Rattle.text.proofs.OrderLaws.{order_equal}
 use Rattle.text.specs.declared.Order.TheVariants.{Less, Equal, Greater}
 use Rattle.parts.specs.Gather.{run}
 use Rattle.state.specs.Maps.{Text, Map, Entry, ◌⟼◌, key_of, Every, lookup, insert, remove, side}
-use Rattle.state.specs.MapLaws.{by_test}
+use Rattle.state.proofs.MapLaws.{by_test}
 use Rattle.state.specs.Sorted.{Ascending}
-use Rattle.state.specs.Places.{ahead, at, behind, split_is, insert-is, remove-is, first_value, lookup-is}
+use Rattle.state.proofs.Places.{ahead, at, behind, split_is, insert-is, remove-is, first_value, lookup-is}
 use Rattle.fields.specs.Format.{all}
 use Rattle.fields.specs.Codes.{Code}
 use Rattle.tables.specs.Seek.{Seen, seek, placed}
 use Rattle.tables.specs.SeekLaws.{Hopped}
 use Rattle.tables.specs.declared.Place.{Place}
 use Rattle.image.specs.Body.{row}
-use Rattle.image.specs.Tables.{bytes_split, bytes-insert, bytes-remove}
-use Rattle.image.specs.Stored.{find_place}
-use Rattle.image.specs.OpenedLaws.{run-to, after_seam}
+use Rattle.image.proofs.TableRowLaws.{bytes_split, bytes-insert, bytes-remove}
+use Rattle.image.proofs.StoredLaws.{find_place}
+use Rattle.image.proofs.OpenedLaws.{run-to, after_seam}
 use Rattle.next.specs.Kept.{run-rest}
 
 -- ---- the row that was found at a place: it has a byte just where its end is past its start

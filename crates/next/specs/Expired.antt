@@ -9,12 +9,13 @@ use Rattle.text.specs.Order.{order_of}
 use Rattle.text.specs.declared.Order.TheVariants.{Less}
 use Rattle.state.specs.Maps.{Entry, Map, ◌⟼◌, key_of, value_of, is_less, before, select, Every}
 use Rattle.state.specs.Sort.{sort, Pairs}
-use Rattle.state.specs.SortLaws.{rearranged_back, rearranged_length, rearranged_every, pairs_weaker, select-few, every-select, pairs_select, map-select, sort_rearranged, sort-map}
+use Rattle.state.proofs.SortLaws.{rearranged_back, rearranged_length, rearranged_every, pairs_weaker, select-few, every-select, pairs_select, map-select, sort_rearranged, sort-map}
 use Rattle.state.specs.Records.{SnapshotLeaseToken}
 use Rattle.fields.specs.Format.{enc_text, all}
 use Rattle.fields.specs.Codes.{Code, codes, past, passed, skip}
 use Rattle.fields.specs.Rows.{text_here}
-use Rattle.fields.specs.Walks.{place_of, Rest, rest-drop, rest_trans, rest-place}
+use Rattle.fields.specs.Walks.{place_of, Rest}
+use Rattle.fields.proofs.WalkLaws.{rest-drop, rest_trans, rest-place}
 use Rattle.tables.specs.Seek.{rows_at}
 use Rattle.tables.specs.Skips.{skip-rest}
 use Rattle.image.specs.Shapes.{lease, lease_from}

@@ -11,8 +11,10 @@ use Rattle.image.specs.Shapes.{short}
 use Rattle.image.specs.Layout.{Formed}
 use Rattle.image.specs.ImageParts.{TableBytes, tables_of, joined, measures, numbers_of}
 use Rattle.image.specs.Opened.{numbers_in, root_width, Holds}
-use Rattle.image.specs.TableLaws.{tables_place, tables_here, tables_end}
-use Rattle.image.specs.Front.{Light, Small, length-measures}
+use Rattle.image.specs.TableLaws.{tables_place}
+use Rattle.image.proofs.TablePlaceLaws.{tables_here, tables_end}
+use Rattle.image.specs.Front.{Light, Small}
+use Rattle.image.proofs.FrontLaws.{length-measures}
 use Rattle.image.specs.declared.Scalars.{Scalars}
 use Rattle.image.specs.declared.Contents.{Contents}
 

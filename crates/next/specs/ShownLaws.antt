@@ -7,7 +7,8 @@ use Rattle.state.specs.Setters.{set_revision}
 use Rattle.image.specs.Layout.{TableName, intents, roots, pins, reservations, leases, jobs, Value, with_map}
 use Rattle.image.specs.ImageParts.{Measure, measures, tables_of, numbers_of}
 use Rattle.image.specs.Opened.{number_of, numbers_in, measure_in, measures_in, Shows}
-use Rattle.image.specs.TableLaws.{index, measures-set}
+use Rattle.image.specs.TableLaws.{index}
+use Rattle.image.proofs.TablePlaceLaws.{measures-set}
 use Rattle.image.specs.Front.{Light, Small}
 use Rattle.image.specs.declared.Table.{Table}
 use Rattle.image.specs.declared.Contents.{Contents}

@@ -17,7 +17,8 @@ use Rattle.parts.specs.Gather.{gather_of}
 use Rattle.parts.specs.Over.{over, over_none}
 use Rattle.state.specs.Records.{default}
 use Rattle.image.specs.Layout.{Read, read_image, state_read, decode_image, encode_image}
-use Rattle.image.specs.Edges.{E1, Measured}
+use Rattle.image.specs.Edges.{Measured}
+use Rattle.image.proofs.EdgeLaws.{E1}
 use Rattle.image.specs.declared.Contents.{Contents}
 use Rattle.image.specs.declared.Opened.{Opened}
 use Rattle.image.specs.Opened.{opened_of}
@@ -25,7 +26,7 @@ use Rattle.entries.specs.ByteHistory.{left_by as left}
 use Rattle.okvstep.specs.declared.Stepped.{Stepped}
 use Rattle.okvstep.specs.Moments.{room, outcome_room, answered, Moment, numbers_of, line_of, stepped_of}
 use Rattle.okvstep.specs.MomentLaws.{moment_start, moment_on, fits, handed}
-use Rattle.entries.specs.Ways.{no_zero}
+use Rattle.entries.proofs.Ways.{no_zero}
 
 -- ---- keep: one part, laid over the front
 

@@ -10,11 +10,11 @@ use Rattle.state.specs.Maps.{Every}
 use Rattle.state.specs.Records.{no_faults, State, default}
 use Rattle.machine.specs.Claims.{image}
 use Rattle.image.specs.Layout.{encode_image}
-use Rattle.image.specs.LayoutLaws.{decodes_back, bytes-image}
+use Rattle.image.proofs.LayoutLaws.{decodes_back, bytes-image}
 use Rattle.image.specs.Contents.{answer}
 use Rattle.requests.specs.Request.{Request, decode_request}
-use Rattle.entries.specs.Ways.{Took, took}
-use Rattle.entries.specs.Agrees.{took_again, default_has_image}
+use Rattle.entries.proofs.Ways.{Took, took}
+use Rattle.entries.proofs.Agrees.{took_again, default_has_image}
 use Rattle.entries.specs.Caller.{Call, Holds}
 use Rattle.entries.specs.ByteHistory.{left_by as left, bytes}
 use Rattle.okvstep.specs.Moments.{room, outcome_room, answered, after, Moment}

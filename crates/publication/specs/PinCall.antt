@@ -19,7 +19,7 @@ use Rattle.image.specs.Shapes.{reference, reference_parts, each_option}
 use Rattle.image.specs.Layout.{pins, row_format}
 use Rattle.image.specs.ImageParts.{row_bytes, tables_of, joined}
 use Rattle.image.specs.Opened.{measures_in, Shows}
-use Rattle.image.specs.OpenedLaws.{run-to, after_seam}
+use Rattle.image.proofs.OpenedLaws.{run-to, after_seam}
 use Rattle.image.specs.TableLaws.{table_in, tables_place}
 use Rattle.image.specs.Front.{Small}
 use Rattle.image.specs.declared.Table.{Table}
@@ -28,7 +28,7 @@ use Rattle.machine.specs.Actions.{Rule, rejected, accepted, decide, Applied}
 use Rattle.machine.specs.Machine.{act, pin}
 use Rattle.machine.specs.Next.{pinned}
 use Rattle.machine.specs.Tests.{Refusal, first_of}
-use Rattle.machine.specs.TestLaws.{Agrees, ◌then◌, first-refuses, first_decides}
+use Rattle.machine.proofs.TestLaws.{Agrees, ◌then◌, first-refuses, first_decides}
 use Rattle.requests.specs.Meaning.{text_of, reference_of, maybe_reference_of, position_of, context_of, faults_of, action_of}
 use Rattle.requests.specs.declared.AuthorityContext.{AuthorityContext as ContextAt}
 use Rattle.requests.specs.declared.PublicationAuthorityFaults.{PublicationAuthorityFaults as FaultsAt}

@@ -7,10 +7,11 @@ use Rattle.std.proofs.Math.Seq.{drop-append_seam, drop-nil, take-append_seam}
 use Rattle.text.specs.Same.{same_of}
 use Rattle.state.specs.Maps.{Text, Map, lookup, same_option}
 use Rattle.state.specs.Sorted.{Ascending}
-use Rattle.state.specs.Places.{at}
+use Rattle.state.proofs.Places.{at}
 use Rattle.state.specs.Records.{State, ObjectReference, reference_eq}
 use Rattle.fields.specs.Format.{Field, El, enc, enc_text, enc_option, option, all, Within}
-use Rattle.fields.specs.Codes.{skip, codes_of, shape, shape-codes}
+use Rattle.fields.specs.Codes.{skip, codes_of, shape}
+use Rattle.fields.proofs.CodeLaws.{shape-codes}
 use Rattle.fields.specs.Walks.{place_of}
 use Rattle.parts.specs.Gather.{run}
 use Rattle.image.specs.Body.{row}
@@ -19,9 +20,10 @@ use Rattle.tables.specs.declared.Place.{Place}
 use Rattle.image.specs.Layout.{row_of, pins, roots, Formed}
 use Rattle.image.specs.Tables.{reference_row}
 use Rattle.image.specs.Opened.{Holds}
-use Rattle.image.specs.Stored.{Stored, stored_in}
-use Rattle.image.specs.SameBytes.{same-reference}
-use Rattle.image.specs.OpenedLaws.{after_seam}
+use Rattle.image.specs.Stored.{Stored}
+use Rattle.image.proofs.StoredLaws.{stored_in}
+use Rattle.image.proofs.SameBytes.{same-reference}
+use Rattle.image.proofs.OpenedLaws.{after_seam}
 use Rattle.image.specs.declared.Contents.{Contents}
 use Rattle.next.specs.Kept.{run-rest}
 use Rattle.next.specs.Peeks.{skip-to}

@@ -16,7 +16,7 @@ use Rattle.tables.specs.declared.Place.{Place}
 use Rattle.image.specs.Layout.{pins, row_format}
 use Rattle.image.specs.ImageParts.{tables_of, joined}
 use Rattle.image.specs.Opened.{measures_in, Shows}
-use Rattle.image.specs.OpenedLaws.{after_seam}
+use Rattle.image.proofs.OpenedLaws.{after_seam}
 use Rattle.image.specs.TableLaws.{table_in, tables_place}
 use Rattle.image.specs.Front.{Small}
 use Rattle.image.specs.declared.Table.{Table}
@@ -25,7 +25,7 @@ use Rattle.machine.specs.Actions.{Rule, rejected, accepted, decide, Applied}
 use Rattle.machine.specs.Machine.{act, unpin}
 use Rattle.machine.specs.Next.{unpinned}
 use Rattle.machine.specs.Tests.{Refusal, first_of}
-use Rattle.machine.specs.TestLaws.{Agrees, ◌then◌, first-refuses, first_decides}
+use Rattle.machine.proofs.TestLaws.{Agrees, ◌then◌, first-refuses, first_decides}
 use Rattle.requests.specs.Meaning.{text_of, reference_of, position_of, context_of, faults_of, action_of}
 use Rattle.requests.specs.declared.AuthorityContext.{AuthorityContext as ContextAt}
 use Rattle.requests.specs.declared.PublicationAuthorityFaults.{PublicationAuthorityFaults as FaultsAt}

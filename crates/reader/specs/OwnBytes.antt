@@ -7,7 +7,8 @@ use Rattle.std.proofs.Math.Seq.{take-nil, drop-nil}
 use Rattle.state.specs.Maps.{Every}
 use Rattle.fields.specs.Codes.{Code, a_number, a_kind, a_text, a_set, maybe, hop, past, passed, skip}
 use Rattle.fields.specs.Rows.{text_here}
-use Rattle.fields.specs.Walks.{Rest, rest_trans, hop-rest}
+use Rattle.fields.specs.Walks.{Rest}
+use Rattle.fields.proofs.WalkLaws.{rest_trans, hop-rest}
 use Rattle.tables.specs.Skips.{skip-rest}
 use Rattle.reader.specs.Records.{record_of}
 

@@ -4,8 +4,9 @@ use Rattle.std.proofs.Common.{arith, append_assoc, append-nil, sym, ap, ◌∙�
 use Rattle.std.proofs.Math.Seq.{take-append_seam}
 use Rattle.parts.specs.Digits.{Bytes}
 use Rattle.fields.specs.Format.{ok, all, Field, El, enc, dec, Every, Within}
-use Rattle.fields.specs.FormatLaws.{dec-enc, enc-dec}
-use Rattle.fields.specs.Codes.{Code, codes, skip, skip-dec}
+use Rattle.fields.proofs.FormatLaws.{dec-enc, enc-dec}
+use Rattle.fields.specs.Codes.{Code, codes, skip}
+use Rattle.fields.proofs.CodeLaws.{skip-dec}
 use Rattle.tables.specs.Seek.{rows_at}
 
 unfoldable pub record_of : List Code → List ℕ → List ℕ

@@ -12,18 +12,21 @@ use Rattle.parts.specs.Digits.{value}
 use Rattle.state.specs.Records.{SnapshotLeaseToken}
 use Rattle.machine.specs.Actions.{Action}
 use Rattle.fields.specs.Format.{Malformed, Res, ok, bad, bind, byte, El, dec}
-use Rattle.fields.specs.Codes.{codes, walk, forget, walk-codes, past, passed, skip, code_of, codes_of, shape}
+use Rattle.fields.specs.Codes.{codes, walk, forget, past, passed, skip, code_of, codes_of, shape}
+use Rattle.fields.proofs.CodeLaws.{walk-codes}
 use Rattle.fields.specs.Walks.{walk_of}
 use Rattle.fields.specs.declared.Walk.TheVariants.{End, Fault}
 use Rattle.image.specs.Contents.{Reply, answer, refusal, whole}
 use Rattle.image.specs.Shapes.{lease, lease_from}
 use Rattle.requests.specs.Flags.{faults_from}
 use Rattle.requests.specs.Request.{Request, head, request, read_fields, read_action, read_request, decode_request, read_token, decode_token}
-use Rattle.requests.specs.Peek.{peek, peek-dec, skip_field}
-use Rattle.requests.specs.Checked.{checked_of, check-is, made-whole, peek_action, fields_whole}
+use Rattle.requests.specs.Peek.{peek}
+use Rattle.requests.proofs.PeekLaws.{peek-dec, skip_field}
+use Rattle.requests.specs.Checked.{checked_of, peek_action}
+use Rattle.requests.proofs.CheckedLaws.{check-is, made-whole, fields_whole}
 use Rattle.requests.specs.Meaning.{faults_of, request_of, parsed_of, token_read_of}
 use Rattle.requests.specs.Positions.{faults_at, context_in, lease_token_in, action_in, request_in, parsed_in, token_in}
-use Rattle.requests.specs.PositionMeaning.{context_means, lease_means, action_means}
+use Rattle.requests.proofs.PositionMeaning.{context_means, lease_means, action_means}
 use Rattle.requests.specs.declared.Checked.{Checked}
 use Rattle.requests.specs.declared.AuthorityContext.{AuthorityContext as ContextAt}
 use Rattle.requests.specs.declared.PublicationAuthorityFaults.{PublicationAuthorityFaults as FaultsAt}

@@ -1,2 +1,13 @@
 pub mod Steps
 pub mod Heads
+pub mod FlagLaws
+pub mod CaseLaws
+pub mod RequestLaws
+pub mod OutcomeLaws
+pub mod Faults
+pub mod PositionLaws
+pub mod PositionMeaning
+pub mod RequestPlaces
+pub mod LimitLaws
+pub mod PeekLaws
+pub mod CheckedLaws

@@ -11,7 +11,7 @@ use borrow.Author.Tests.{leb-true, leb-false}
 use Rattle.parts.specs.Digits.{value}
 use Rattle.image.specs.declared.TextAt.{TextAt}
 use Rattle.requests.specs.Positions.{text_in}
-use Rattle.requests.specs.PositionMeaning.{first_byte}
+use Rattle.requests.proofs.PositionMeaning.{first_byte}
 
 module _ (s : List ℕ) (at : ℕ) where
   pub text-none : length s ≤ at → ◌≡◌ {A = TextAt} (record { at = length s; len = 0 }) (text_in s at)

@@ -2,16 +2,8 @@ pub mod Cases
 pub mod Flags
 pub mod Request
 pub mod Outcome
-pub mod FlagLaws
-pub mod CaseLaws
-pub mod RequestLaws
-pub mod OutcomeLaws
-pub mod Faults
 pub mod Limits
 pub mod Meaning
 pub mod Peek
 pub mod Checked
 pub mod Positions
-pub mod PositionLaws
-pub mod PositionMeaning
-pub mod RequestPlaces

@@ -1,19 +1,16 @@
 -- Every limit of a request, a token and an outcome, by whole bytes. A row names a text or a set, and its limit: the bytes in which that has
 -- just its limit are read, and those with a byte or member more are refused with 42. The flags and the action byte: the last that is
 -- read, and the next.
-use Rattle.std.specs.Prelude.{ℕ, suc, ◌≡◌, refl, Bool, true, ◌&&◌, List, [], ◌∷◌, ◌++◌, map, eqb, replicate}
+use Rattle.std.specs.Prelude.{ℕ, suc, Bool, ◌&&◌, List, [], ◌∷◌, ◌++◌, map, eqb, replicate}
 use Rattle.std.proofs.Math.Option.{none, some}
 use Rattle.state.specs.Maps.{Text, all}
 use Rattle.state.specs.Records.{AuthorityContext, ObjectReference, SnapshotLeaseToken, CollectionJobToken, CollectionReceipt, no_faults}
 use Rattle.machine.specs.Actions.{Action, ConfigureCollectionRoot, AcquireLease, RenewLease, ReleaseLease, PrepareCollection, PublishCollection, AbandonCollection, Prepare, Publish, Pin, Unpin, ReserveDelete, RetireDelete, Outcome, LeasesExpired}
 use Rattle.fields.specs.Format.{Malformed, OverLimit}
 use Rattle.image.specs.Contents.{Reply, answer, refusal}
-use Rattle.image.specs.Computes.{image_computes}
 use Rattle.image.specs.Limits.{letters, counted, empty, reference, plain, full, full_keys, identity, intent, permit, lease, job}
-use Rattle.requests.specs.Cases.{read_case, write_parts}
-use Rattle.requests.specs.Flags.{bits_number}
-use Rattle.requests.specs.Request.{read_fields, read_action, read_request, decode_request, encode_request, read_token, decode_token, encode_token}
-use Rattle.requests.specs.Outcome.{enc_list, read_texts, read_list, encode_outcome, read_outcome, decode_outcome}
+use Rattle.requests.specs.Request.{decode_request, encode_request, decode_token, encode_token}
+use Rattle.requests.specs.Outcome.{encode_outcome, decode_outcome}
 
 -- ACTIONS, by their texts and sets; every number is 0
 abbrev acquire : (lease_id tenant_id owner purpose : Text) (manifest : ObjectReference) (object_keys : List Text) → Action
@@ -172,8 +169,3 @@ table =
     ∷ text (λ object-key. Prepare (letters 64) (intent (full_keys object-key) full (letters 64) (some full))) 128
     ∷ token_text (λ object-key. lease (letters 64) (letters 64) (letters 64) (letters 64) full (full_keys object-key)) 128
     ∷ []
-
-pub limits : all holds table ≡ true
-unfolding image_computes all read_case write_parts bits_number read_fields read_action read_request decode_request encode_request
-    read_token decode_token encode_token enc_list read_texts read_list encode_outcome read_outcome decode_outcome
-limits = refl

@@ -9,12 +9,14 @@ use mathlib.Core.Path.{◌≡◌, refl, sym, ap, ◌∙◌}
 use lib.ListN.{length, drop, get_or, drop_of_length-le}
 use lib.Seq.{drop-cons}
 use Rattle.text.specs.Order.{order_of}
-use Rattle.text.specs.OrderLaws.{flip, order_flip, order_trans}
+use Rattle.text.proofs.OrderLaws.{flip, order_flip, order_trans}
 use Rattle.text.specs.declared.Order.TheVariants.{Less, Greater}
 use Rattle.state.specs.Maps.{Text, any, is_empty}
-use Rattle.fields.specs.Codes.{Code, skip, past, code_of, codes_of, shape, shape-codes}
+use Rattle.fields.specs.Codes.{Code, skip, past, code_of, codes_of, shape}
+use Rattle.fields.proofs.CodeLaws.{shape-codes}
 use Rattle.fields.specs.Rows.{text_here}
-use Rattle.fields.specs.Walks.{place_of, rest-drop, rest_trans, rest-place, hop-rest}
+use Rattle.fields.specs.Walks.{place_of}
+use Rattle.fields.proofs.WalkLaws.{rest-drop, rest_trans, rest-place, hop-rest}
 use Rattle.tables.specs.Skips.{skip-rest}
 use Rattle.tables.specs.Seek.{nothing_at, seek, row_of}
 use Rattle.sets.specs.Sets.{texts_of, set_of}

@@ -5,7 +5,7 @@ use mathlib.Core.List.{List, [], ◌∷◌, ◌++◌}
 use Rattle.std.proofs.Math.Path.{refl, ap}
 use Rattle.std.proofs.Common.{sym, ◌∙◌}
 use Rattle.state.specs.Maps.{Text, Map, Entry, ◌⟼◌, key_of, is_empty, is_some, has_key, any}
-use Rattle.state.specs.Places.{at, first_value, lookup-is}
+use Rattle.state.proofs.Places.{at, first_value, lookup-is}
 use Rattle.state.specs.Sorted.{Ascending}
 use Rattle.state.specs.Records.{State}
 use Rattle.fields.specs.Format.{all, Every, enc, enc_text}
@@ -16,8 +16,9 @@ use Rattle.image.specs.Shapes.{permit}
 use Rattle.image.specs.Layout.{TableName, reservations, map_of, row_format, Formed}
 use Rattle.image.specs.ImageParts.{row_bytes}
 use Rattle.image.specs.Opened.{Holds}
-use Rattle.image.specs.Stored.{find_row, stored_in}
-use Rattle.image.specs.TableLaws.{table_in, behind, count-is, table_here}
+use Rattle.image.proofs.StoredLaws.{find_row, stored_in}
+use Rattle.image.specs.TableLaws.{table_in, behind}
+use Rattle.image.proofs.TablePlaceLaws.{count-is, table_here}
 use Rattle.image.specs.declared.Contents.{Contents}
 use Rattle.image.specs.declared.Table.{Table}
 

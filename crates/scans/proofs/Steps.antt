@@ -8,9 +8,11 @@ use native.Mathlib.Nat.{sub-zero}
 use lib.ListN.{length, drop}
 use Rattle.state.specs.Maps.{Every, any, contains, same, starts_with}
 use Rattle.fields.specs.Format.{◌▹◌}
-use Rattle.fields.specs.Codes.{Code, a_text, codes, skip, key_limit, codes_of, shape, shape-codes}
+use Rattle.fields.specs.Codes.{Code, a_text, codes, skip, key_limit, codes_of, shape}
+use Rattle.fields.proofs.CodeLaws.{shape-codes}
 use Rattle.fields.specs.Rows.{text_here}
-use Rattle.fields.specs.Walks.{place_of, drop-within}
+use Rattle.fields.specs.Walks.{place_of}
+use Rattle.fields.proofs.WalkLaws.{drop-within}
 use Rattle.sets.specs.Sets.{set_of}
 use Rattle.tables.specs.Seek.{rows_at}
 use Rattle.reader.specs.Records.{record_of}

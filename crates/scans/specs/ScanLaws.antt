@@ -4,8 +4,10 @@ use Rattle.std.proofs.Common.{append_assoc, sym, ap, ◌∙◌}
 use Rattle.state.specs.Maps.{Text, Map, Entry, ◌⟼◌, key_of, same, starts_with, contains, any, any_value}
 use Rattle.state.specs.Records.{PreparedPublication, SnapshotLeaseToken, CollectionJobToken, State, names}
 use Rattle.fields.specs.Format.{Field, option, set, ◌▹◌, El, enc, enc_text, all}
-use Rattle.fields.specs.Codes.{Code, codes, skip, set_most, key_limit, codes_of, shape, shape-codes}
-use Rattle.fields.specs.Rows.{text_here, text-there}
+use Rattle.fields.specs.Codes.{Code, codes, skip, set_most, key_limit, codes_of, shape}
+use Rattle.fields.proofs.CodeLaws.{shape-codes}
+use Rattle.fields.specs.Rows.{text_here}
+use Rattle.fields.proofs.RowLaws.{text-there}
 use Rattle.sets.specs.Sets.{texts_of, set_of}
 use Rattle.tables.specs.Seek.{rows_at}
 use Rattle.tables.specs.SeekLaws.{tails, rows_are}
@@ -14,8 +16,9 @@ use Rattle.image.specs.Layout.{TableName, intents, leases, jobs, Value, map_of, 
 use Rattle.image.specs.Tables.{intent_row, lease_row, job_row}
 use Rattle.image.specs.ImageParts.{row_bytes}
 use Rattle.image.specs.Opened.{Holds}
-use Rattle.image.specs.Stored.{stored_in}
-use Rattle.image.specs.TableLaws.{table_in, behind, count-is, table_here}
+use Rattle.image.proofs.StoredLaws.{stored_in}
+use Rattle.image.specs.TableLaws.{table_in, behind}
+use Rattle.image.proofs.TablePlaceLaws.{count-is, table_here}
 use Rattle.image.specs.declared.Contents.{Contents}
 use Rattle.next.specs.Peeks.{hop-text, skip-to}
 use Rattle.scans.specs.Scans.{names_at, uses_at}

@@ -12,7 +12,8 @@ use Rattle.state.specs.Maps.{Text, any, all}
 use Rattle.state.specs.Records.{named}
 use Rattle.fields.specs.Codes.{hop}
 use Rattle.fields.specs.Rows.{text_here}
-use Rattle.fields.specs.Walks.{place_of, rest-drop, rest_trans, rest-place, hop-rest}
+use Rattle.fields.specs.Walks.{place_of}
+use Rattle.fields.proofs.WalkLaws.{rest-drop, rest_trans, rest-place, hop-rest}
 use Rattle.sets.specs.Sets.{texts_of, set_of}
 
 -- ---- the place after a text

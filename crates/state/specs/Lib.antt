@@ -1,9 +1,5 @@
 pub mod Maps
-pub mod MapLaws
 pub mod Sort
-pub mod SortLaws
 pub mod Sorted
-pub mod Places
 pub mod Records
 pub mod Setters
-pub mod RecordLaws

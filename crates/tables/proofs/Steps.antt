@@ -10,7 +10,8 @@ use borrow.Author.Tests.{lt-ltb, le-ltb, ne_eqb}
 use Rattle.text.specs.Order.{order_of}
 use Rattle.text.specs.declared.Order.TheVariants.{Less, Equal, Greater}
 use Rattle.fields.specs.Codes.{Code, hop, hops, hop_set, absent_codes, past, passed, skip, code_of, codes_of}
-use Rattle.fields.specs.Walks.{place_of, end-at, Rest, rest-place, rest_trans, rest-drop, hop-rest}
+use Rattle.fields.specs.Walks.{place_of, Rest}
+use Rattle.fields.proofs.WalkLaws.{end-at, rest-place, rest_trans, rest-drop, hop-rest}
 use Rattle.fields.specs.Rows.{text_here}
 use Rattle.tables.specs.Skips.{left_over, past_over, skip-cons, past_over-rest, skip-rest}
 use Rattle.tables.specs.Seek.{Seen, seek, placed, row_of}

@@ -7,12 +7,15 @@ use Rattle.std.proofs.Math.Path.{refl, ap}
 use Rattle.text.specs.Order.{order_of}
 use Rattle.text.specs.declared.Order.TheVariants.{Less, Equal, Greater}
 use Rattle.state.specs.Maps.{Text, Map, Entry, ◌⟼◌, key_of, side, Every}
-use Rattle.state.specs.Places.{at, behind}
+use Rattle.state.proofs.Places.{at, behind}
 use Rattle.fields.specs.Format.{Field, text, ◌▹◌, El, enc, all, Within}
-use Rattle.fields.specs.FormatLaws.{dec-enc}
-use Rattle.fields.specs.Codes.{Code, codes, skip, skip-dec}
-use Rattle.fields.specs.Walks.{place_of, Rest, rest_all, rest_trans, rest-place}
-use Rattle.fields.specs.Rows.{text_here, row-text}
+use Rattle.fields.proofs.FormatLaws.{dec-enc}
+use Rattle.fields.specs.Codes.{Code, codes, skip}
+use Rattle.fields.proofs.CodeLaws.{skip-dec}
+use Rattle.fields.specs.Walks.{place_of, Rest}
+use Rattle.fields.proofs.WalkLaws.{rest_all, rest_trans, rest-place}
+use Rattle.fields.specs.Rows.{text_here}
+use Rattle.fields.proofs.RowLaws.{row-text}
 use Rattle.tables.specs.Skips.{skip-rest}
 use Rattle.tables.specs.Seek.{Seen, nothing_at, seek, row_of, rows_at}
 

@@ -13,10 +13,11 @@ use borrow.Author.Tests.{lt-ltb, le-ltb}
 use Rattle.parts.specs.Digits.{Bytes, digits, value}
 use Rattle.parts.specs.DigitLaws.{bytes_drop, bytes_take, digits_value, value_same}
 use Rattle.text.specs.Order.{order_of, steps_of}
-use Rattle.text.specs.OrderLaws.{Heads, heads, less, same, more, head-less, head_more}
+use Rattle.text.proofs.OrderLaws.{Heads, heads, less, same, more, head-less, head_more}
 use Rattle.text.specs.SameLaws.{cut}
-use Rattle.text.specs.StepLaws.{steps_to_word, steps_to_byte, steps_to_end}
-use Rattle.text.specs.Words.{big_of, order_words}
+use Rattle.text.proofs.StepLaws.{steps_to_word, steps_to_byte, steps_to_end}
+use Rattle.text.specs.Words.{big_of}
+use Rattle.text.proofs.WordLaws.{order_words}
 use Rattle.text.specs.declared.Compared.{Compared}
 use Rattle.text.specs.declared.Order.{Order}
 use Rattle.text.specs.declared.Order.TheVariants.{Less, Equal, Greater}

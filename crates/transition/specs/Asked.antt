@@ -11,10 +11,10 @@ use Rattle.machine.specs.Actions.{Action, Transition, rejected, decide}
 use Rattle.machine.specs.Machine.{rule, stamp, apply}
 use Rattle.image.specs.Contents.{answer, refusal}
 use Rattle.image.specs.Layout.{decode_image}
-use Rattle.image.specs.OpenedLaws.{OpenedAs}
+use Rattle.image.proofs.OpenedLaws.{OpenedAs}
 use Rattle.image.specs.declared.Contents.{Contents}
 use Rattle.requests.specs.Request.{decode_request, encode_request, WithinRequest}
-use Rattle.requests.specs.RequestLaws.{request-written}
+use Rattle.requests.proofs.RequestLaws.{request-written}
 use Rattle.requests.specs.Meaning.{context_of, faults_of, action_of, request_of}
 use Rattle.requests.specs.Positions.{request_in, parsed_in}
 use Rattle.requests.specs.declared.Parsed.{Parsed}

@@ -10,25 +10,28 @@ use Rattle.std.proofs.lemmas.Bool.{lt-leb}
 use Rattle.text.specs.Same.{same_of}
 use Rattle.parts.specs.Digits.{Bytes}
 use Rattle.state.specs.Maps.{◌⟼◌, lookup}
-use Rattle.state.specs.Places.{at}
+use Rattle.state.proofs.Places.{at}
 use Rattle.state.specs.Sorted.{Ascending}
 use Rattle.next.specs.Edit.{Standing, absent, present, standing}
 use Rattle.state.specs.Records.{State, SnapshotLeaseToken}
 use Rattle.fields.specs.Format.{all, enc, enc_text, Within}
-use Rattle.fields.specs.Codes.{codes, codes_of, shape, shape-codes}
+use Rattle.fields.specs.Codes.{codes, codes_of, shape}
+use Rattle.fields.proofs.CodeLaws.{shape-codes}
 use Rattle.tables.specs.Seek.{seek, row_of}
 use Rattle.image.specs.Contents.{answer, refusal}
 use Rattle.image.specs.Layout.{leases, decode_image}
-use Rattle.image.specs.OpenedLaws.{OpenedAs}
-use Rattle.image.specs.SameBytes.{same-lease}
+use Rattle.image.proofs.OpenedLaws.{OpenedAs}
+use Rattle.image.proofs.SameBytes.{same-lease}
 use Rattle.image.specs.Shapes.{lease, lease_parts}
-use Rattle.image.specs.Stored.{StoredIn, stored_in, find_row}
-use Rattle.image.specs.TableLaws.{table_in, behind, count-is, table_here}
+use Rattle.image.specs.Stored.{StoredIn}
+use Rattle.image.proofs.StoredLaws.{stored_in, find_row}
+use Rattle.image.specs.TableLaws.{table_in, behind}
+use Rattle.image.proofs.TablePlaceLaws.{count-is, table_here}
 use Rattle.image.specs.Tables.{lease_row}
 use Rattle.image.specs.declared.Contents.{Contents}
 use Rattle.machine.specs.Machine.{validate, validate_found}
 use Rattle.requests.specs.Request.{decode_token, encode_token}
-use Rattle.requests.specs.RequestLaws.{token-written}
+use Rattle.requests.proofs.RequestLaws.{token-written}
 use Rattle.requests.specs.Meaning.{text_of, lease_token_of}
 use Rattle.requests.specs.declared.SnapshotLeaseToken.{SnapshotLeaseToken as TokenAt}
 use Rattle.entries.specs.Bytes.{validate_bytes}

@@ -1,7 +1,7 @@
 use mathlib.Core.Path.{ap, ◌∙◌}
 use mathlib.Core.Bool.{not}
 use borrow.Author.Tests.{eq-eqb, ne_eqb, le-leb, lt-leb}
-use Rattle.machine.specs.TestLaws.{first-here, first_on, first-none}
+use Rattle.machine.proofs.TestLaws.{first-here, first_on, first-none}
 use Rattle.clock.proofs.advance_refusal.Goals as goal
 
 pub returns-then-a-clock : goal.returns-then-a-clock

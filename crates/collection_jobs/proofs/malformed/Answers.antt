@@ -2,7 +2,7 @@ use borrow.Author.Tests.{eq-eqb, ne_eqb}
 use mathlib.Core.Bool.{not}
 use mathlib.Core.Path.{sym, ap, ◌∙◌}
 use Rattle.text.specs.Same.{ends_with_of}
-use Rattle.machine.specs.TestLaws.{first-here, first_on, first-none}
+use Rattle.machine.proofs.TestLaws.{first-here, first_on, first-none}
 use Rattle.collection_jobs.proofs.malformed.Goals as goal
 
 pub returns-then-is_empty : goal.returns-then-is_empty

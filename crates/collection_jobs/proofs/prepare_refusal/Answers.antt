@@ -1,6 +1,6 @@
 use borrow.Author.Tests.{le-leb, le-ltb, lt-leb, lt-ltb}
 use mathlib.Core.Path.{sym, ◌∙◌}
-use Rattle.machine.specs.TestLaws.{first-here, first_on, first-none}
+use Rattle.machine.proofs.TestLaws.{first-here, first_on, first-none}
 use Rattle.collection_jobs.specs.Conflicts.{conflict_told}
 use Rattle.collection_jobs.specs.Tests.{malformed_tests, stale_tests}
 use Rattle.collection_jobs.specs.FirstLaws.{first_stops, first_past}

@@ -1,5 +1,5 @@
 use mathlib.Core.Path.{sym, ◌∙◌}
-use Rattle.machine.specs.TestLaws.{first-here, first_on, first-none}
+use Rattle.machine.proofs.TestLaws.{first-here, first_on, first-none}
 use Rattle.collection_jobs.specs.Tests.{stale_tests}
 use Rattle.collection_jobs.specs.FirstLaws.{first_stops, first_past}
 use Rattle.collection_publish.specs.Tests.{receipt_tests}

@@ -2,7 +2,7 @@ use borrow.Author.Tests.{eq-eqb, ne_eqb}
 use mathlib.Core.Bool.{not}
 use mathlib.Core.Path.{sym, ap, ◌∙◌}
 use Rattle.text.specs.Same.{same_of}
-use Rattle.machine.specs.TestLaws.{first-here, first_on, first-none}
+use Rattle.machine.proofs.TestLaws.{first-here, first_on, first-none}
 use Rattle.collection_publish.specs.Tests.{token-shown, manifests_told}
 use Rattle.collection_publish.proofs.receipt_refusal.Goals as goal
 

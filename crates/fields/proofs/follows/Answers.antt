@@ -1,7 +1,7 @@
 use mathlib.Core.Path.{sym, ◌∙◌, ap}
 use Rattle.state.specs.Maps.{is_less}
 use Rattle.fields.proofs.WalkSteps.{follows_first, follows_later}
-use Rattle.text.specs.OrderLaws.{order_told}
+use Rattle.text.proofs.OrderLaws.{order_told}
 use Rattle.fields.proofs.follows.Goals as goal
 
 pub returns-then-i-eq0 : goal.returns-then-i-eq0

@@ -3,7 +3,8 @@ use mathlib.Core.Path.{sym, ◌∙◌, ap}
 use native.Mathlib.Omega.{arith}
 use lib.ListN.{drop}
 use Rattle.fields.specs.Codes.{walk, codes_of}
-use Rattle.fields.specs.Walks.{walk_of, drop-within}
+use Rattle.fields.specs.Walks.{walk_of}
+use Rattle.fields.proofs.WalkLaws.{drop-within}
 use Rattle.fields.proofs.WalkSteps.{walk_end, walk_stop, walk-next}
 use Rattle.fields.proofs.walk_record.Goals as goal
 

@@ -5,7 +5,8 @@ use native.Mathlib.Omega.{arith}
 use native.Mathlib.Nat.{sub-zero}
 use lib.ListN.{drop}
 use Rattle.fields.specs.Codes.{codes_of}
-use Rattle.fields.specs.Walks.{walk_of, drop-within}
+use Rattle.fields.specs.Walks.{walk_of}
+use Rattle.fields.proofs.WalkLaws.{drop-within}
 use Rattle.fields.specs.Rows.{walk_rows}
 use Rattle.fields.proofs.WalkSteps.{rows_follow, rows_none, rows-fault, row-ended, rows_order, rows_more}
 use Rattle.fields.proofs.walk_rows.Goals as goal

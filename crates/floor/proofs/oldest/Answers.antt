@@ -5,7 +5,7 @@ use native.Mathlib.Omega.{arith}
 use native.Mathlib.Nat.{sub-zero}
 use lib.ListN.{drop}
 use Rattle.fields.specs.Codes.{codes}
-use Rattle.fields.specs.Walks.{drop-within}
+use Rattle.fields.proofs.WalkLaws.{drop-within}
 use Rattle.image.specs.Shapes.{lease}
 use Rattle.tables.specs.Seek.{rows_at}
 use Rattle.floor.specs.Floors.{oldest_at}

@@ -11,7 +11,7 @@
 -- src/lib.rt:581:1
 use mathlib.Core.Path.{ap, ◌∙◌}
 use Rattle.parts.specs.Answer.{written_of, laid_over}
-use Rattle.image.specs.Default.{default-small, default_is}
+use Rattle.image.proofs.Default.{default-small, default_is}
 use Rattle.image.proofs.default_image.Reads as reads
 use Rattle.image.proofs.default_image.Lts as lts
 use Rattle.image.proofs.front_of.Reads as front-of-reads

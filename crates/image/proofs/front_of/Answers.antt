@@ -1,6 +1,6 @@
 use native.Mathlib.Omega.{arith}
 use Prim.Native.Nat.{◌+◌}
-use Rattle.image.specs.Front.{window_narrow, laid-front, length-head}
+use Rattle.image.proofs.FrontLaws.{window_narrow, laid-front, length-head}
 use Rattle.image.proofs.front_of.Goals as goal
 
 pub overflow_add-size : goal.overflow_add-size

@@ -4,9 +4,11 @@ use mathlib.Core.Path.{ap}
 use lib.ListN.{drop, length, get_or, length-append}
 use Rattle.parts.specs.Over.{going_start, going_more, going_done}
 use Rattle.image.specs.Layout.{written}
-use Rattle.image.specs.ImageParts.{entries_from, length-entries}
+use Rattle.image.specs.ImageParts.{entries_from}
+use Rattle.image.proofs.ImagePartLaws.{length-entries}
 use Rattle.image.specs.Opened.{measures_in, nowhere}
-use Rattle.image.specs.Front.{entry_bytes, length-measures}
+use Rattle.image.specs.Front.{entry_bytes}
+use Rattle.image.proofs.FrontLaws.{length-measures}
 use Rattle.image.proofs.FrontSteps.{light_at, length-entry, entries-more, entries-end}
 use Rattle.image.proofs.put_entries.Goals as goal
 

@@ -4,7 +4,7 @@ use mathlib.Core.Path.{ap, ◌∙◌}
 use lib.ListN.{length, drop, length-take}
 use Rattle.parts.specs.DigitLaws.{length_digits}
 use Rattle.parts.specs.Gather.{run}
-use Rattle.image.specs.Front.{window_narrow}
+use Rattle.image.proofs.FrontLaws.{window_narrow}
 use Rattle.image.proofs.FrontSteps.{length-words, scalars-laid}
 use Rattle.image.proofs.put_scalars.Goals as goal
 

@@ -1,5 +1,5 @@
 use mathlib.Core.Path.{refl, ◌∙◌}
-use Rattle.fields.specs.Codes.{shape-codes}
+use Rattle.fields.proofs.CodeLaws.{shape-codes}
 use Rattle.image.specs.Layout.{row_format, intents, roots, pins, reservations, leases, jobs}
 use Rattle.image.proofs.Steps.{rows_at, rows_last}
 use Rattle.image.proofs.rows_end.Goals as goal

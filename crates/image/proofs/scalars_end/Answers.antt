@@ -1,6 +1,6 @@
 use borrow.Author.Tests.{eq-eqb, ne_eqb}
 use mathlib.Core.Path.{refl}
-use Rattle.fields.specs.Codes.{shape-codes}
+use Rattle.fields.proofs.CodeLaws.{shape-codes}
 use Rattle.image.specs.Layout.{scalars}
 use Rattle.image.proofs.scalars_end.Goals as goal
 

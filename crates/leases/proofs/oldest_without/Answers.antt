@@ -7,7 +7,7 @@ use native.Mathlib.Nat.{sub-zero}
 use lib.ListN.{drop}
 use Rattle.state.specs.Maps.{same}
 use Rattle.fields.specs.Codes.{codes}
-use Rattle.fields.specs.Walks.{drop-within}
+use Rattle.fields.proofs.WalkLaws.{drop-within}
 use Rattle.image.specs.Shapes.{lease}
 use Rattle.tables.specs.Seek.{rows_at}
 use Rattle.leases.specs.Oldest.{named, oldest_kept, kept-end, kept_on}

@@ -1,7 +1,7 @@
 use mathlib.Core.Path.{sym, ap, ◌∙◌}
 use mathlib.Core.Bool.{not}
 use borrow.Author.Tests.{eq-eqb, le-leb, lt-leb, ne_eqb}
-use Rattle.machine.specs.TestLaws.{first-here, first_on, first-none}
+use Rattle.machine.proofs.TestLaws.{first-here, first_on, first-none}
 use Rattle.leases.proofs.renew_refusal.Goals as goal
 
 pub returns-then-row-eq0 : goal.returns-then-row-eq0

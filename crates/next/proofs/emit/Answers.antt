@@ -52,7 +52,7 @@
 -- src/lib.rt:257:1
 -- src/lib.rt:257:1
 -- src/lib.rt:257:1
-use Rattle.image.specs.Front.{front-held}
+use Rattle.image.proofs.FrontLaws.{front-held}
 use native.Mathlib.Omega.{arith}
 use mathlib.Core.Path.{ap, sym, ◌∙◌, subst}
 use Rattle.parts.specs.Gather.{gather_of}

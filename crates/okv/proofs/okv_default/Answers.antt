@@ -1,6 +1,6 @@
 use mathlib.Core.Path.{ap, ◌∙◌}
 use Rattle.parts.specs.declared.Written.{Written}
-use Rattle.entries.specs.Agrees.{default-written, default-laid}
+use Rattle.entries.proofs.Agrees.{default-written, default-laid}
 use Rattle.okv.proofs.okv_default.Goals as goal
 
 pub returns : goal.returns

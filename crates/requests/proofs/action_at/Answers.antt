@@ -1,7 +1,8 @@
 use Prim.Native.Nat.{ℕ}
 use mathlib.Core.Path.{◌≡◌, refl, sym, ap, ◌∙◌}
 use mathlib.Core.List.{List}
-use Rattle.requests.specs.Checked.{Other, other_past, nth_other}
+use Rattle.requests.specs.Checked.{Other}
+use Rattle.requests.proofs.CheckedLaws.{other_past, nth_other}
 use Rattle.requests.specs.Positions.{permit_in, actions_in, action_in, fields_place}
 use Rattle.requests.specs.declared.PublicationAction.{PublicationAction}
 use Rattle.requests.proofs.action_at.Goals as goal

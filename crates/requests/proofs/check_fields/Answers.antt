@@ -1,4 +1,5 @@
-use Rattle.requests.specs.Checked.{checked_of, action_case, check-is, other_past, fields_none}
+use Rattle.requests.specs.Checked.{checked_of, action_case}
+use Rattle.requests.proofs.CheckedLaws.{check-is, other_past, fields_none}
 use Prim.Native.Nat.{ℕ}
 use mathlib.Core.Path.{sym, ap, ◌∙◌}
 use mathlib.Core.List.{List}

@@ -1,8 +1,8 @@
 use mathlib.Core.Path.{sym, ◌∙◌}
 use lib.ListN.{drop}
 use Rattle.fields.specs.Codes.{walk, codes_of}
-use Rattle.fields.specs.Walks.{walk-leaves}
-use Rattle.requests.specs.Checked.{walk-whole, walk_surplus, walk-fault}
+use Rattle.fields.proofs.WalkLaws.{walk-leaves}
+use Rattle.requests.proofs.CheckedLaws.{walk-whole, walk_surplus, walk-fault}
 use Rattle.requests.proofs.check_record.Goals as goal
 
 pub returns-then-p-s : goal.returns-then-p-s

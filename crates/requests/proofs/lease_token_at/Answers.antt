@@ -1,5 +1,5 @@
 use native.Mathlib.Omega.{arith}
-use Rattle.requests.specs.PositionLaws.{closure-end, closure-within}
+use Rattle.requests.proofs.PositionLaws.{closure-end, closure-within}
 use Rattle.requests.proofs.lease_token_at.Goals as goal
 
 pub overflow_add-owner_generation : goal.overflow_add-owner_generation

@@ -1,6 +1,6 @@
 use mathlib.Core.Path.{sym, ap, ◌∙◌}
 use Rattle.requests.specs.Request.{decode_request}
-use Rattle.requests.specs.Checked.{reply-fault}
+use Rattle.requests.proofs.CheckedLaws.{reply-fault}
 use Rattle.requests.specs.Positions.{parsed_in}
 use Rattle.requests.proofs.Heads.{parsed, request-placed}
 use Rattle.requests.proofs.parse.Goals as goal

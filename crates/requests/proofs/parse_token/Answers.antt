@@ -1,7 +1,7 @@
 use mathlib.Core.Path.{sym, ap, ◌∙◌}
 use Rattle.fields.specs.Codes.{codes_of, code_of, codes}
 use Rattle.requests.specs.Request.{decode_token}
-use Rattle.requests.specs.Checked.{reply-fault}
+use Rattle.requests.proofs.CheckedLaws.{reply-fault}
 use Rattle.requests.specs.Positions.{token_in}
 use Rattle.requests.proofs.Heads.{token_checked, token-read, token-placed}
 use Rattle.requests.proofs.parse_token.Goals as goal

@@ -4,7 +4,7 @@ use Rattle.fields.specs.Codes.{codes_of}
 use mathlib.Core.Path.{refl, sym, ap, ◌∙◌}
 use Prim.Native.Nat.{ℕ}
 use lib.ListN.{drop}
-use Rattle.text.specs.OrderLaws.{order_told}
+use Rattle.text.proofs.OrderLaws.{order_told}
 use Rattle.reserved.proofs.reach.Goals as goal
 
 pub loop-left-init : goal.loop-left-init

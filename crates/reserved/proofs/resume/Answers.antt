@@ -2,7 +2,7 @@ use Rattle.reserved.proofs.Steps.{same_row, passed_on}
 use Rattle.fields.specs.Codes.{codes_of}
 use mathlib.Core.Path.{sym, ◌∙◌}
 use lib.ListN.{drop}
-use Rattle.text.specs.OrderLaws.{order_told}
+use Rattle.text.proofs.OrderLaws.{order_told}
 use Rattle.reserved.proofs.resume.Goals as goal
 
 pub returns-in-Less : goal.returns-in-Less

@@ -4,7 +4,8 @@ use mathlib.Core.Path.{refl, sym, ap, ◌∙◌}
 use mathlib.Core.List.{List}
 use native.Mathlib.Omega.{arith}
 use lib.ListN.{drop}
-use Rattle.fields.specs.Codes.{Code, codes, skip, shape-codes}
+use Rattle.fields.specs.Codes.{Code, codes, skip}
+use Rattle.fields.proofs.CodeLaws.{shape-codes}
 use Rattle.fields.specs.Walks.{place_of}
 use Rattle.scans.specs.Scans.{uses_at}
 use Rattle.scans.proofs.Steps.{scan_start, scan_end, scan_here, scan_on, uses-told}

@@ -3,11 +3,11 @@ use native.Mathlib.Omega.{arith}
 use native.Mathlib.Nat.{sub-zero}
 use Prim.Native.Nat.{ℕ, ◌-◌, ◌+◌, zero-le}
 use lib.ListN.{drop}
-use Rattle.fields.specs.Walks.{drop-within}
+use Rattle.fields.proofs.WalkLaws.{drop-within}
 use Rattle.fields.specs.Codes.{codes_of}
 use Rattle.tables.specs.Seek.{seek, placed}
 use Rattle.tables.proofs.Steps.{seek-end, seek-before, seek-here, seek_on}
-use Rattle.text.specs.OrderLaws.{order_told}
+use Rattle.text.proofs.OrderLaws.{order_told}
 use Rattle.tables.proofs.locate.Goals as goal
 
 pub loop-i-init : goal.loop-i-init

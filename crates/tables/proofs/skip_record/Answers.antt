@@ -2,7 +2,8 @@ use mathlib.Core.Path.{sym, ◌∙◌, ap}
 use native.Mathlib.Omega.{arith}
 use Prim.Native.Nat.{ℕ, ◌-◌, zero-le}
 use lib.ListN.{drop}
-use Rattle.fields.specs.Walks.{place_of, drop-within}
+use Rattle.fields.specs.Walks.{place_of}
+use Rattle.fields.proofs.WalkLaws.{drop-within}
 use Rattle.fields.specs.Codes.{skip, codes_of}
 use Rattle.tables.proofs.Steps.{skip-end, skip_on, hop-low}
 use Rattle.tables.proofs.skip_record.Goals as goal

@@ -1,6 +1,6 @@
 -- A number for each case of the order, and the steps beside it.
 use mathlib.Core.Path.{sym, ap, ◌∙◌}
-use Rattle.text.specs.OrderLaws.{order_told}
+use Rattle.text.proofs.OrderLaws.{order_told}
 use Rattle.text.specs.declared.Compared.{Compared}
 use Rattle.text_c.specs.Sign.{sign_of}
 use Rattle.text_c.proofs.text_compare.Goals as goal

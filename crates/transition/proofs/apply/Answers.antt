@@ -1,7 +1,7 @@
 use borrow.Author.Tests.{not-true, not-false}
 use native.Mathlib.Omega.{arith}
 use mathlib.Core.Path.{sym, ap, ◌∙◌}
-use Rattle.image.specs.OpenedLaws.{opened_as, not_opened}
+use Rattle.image.proofs.OpenedLaws.{opened_as, not_opened}
 use Rattle.requests.specs.Meaning.{parsed_of}
 use Rattle.transition.specs.Asked.{asked_of, no-image, no-request}
 use Rattle.transition.proofs.apply.Goals as goal

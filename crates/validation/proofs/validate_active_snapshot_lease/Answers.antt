@@ -9,7 +9,7 @@ use borrow.Author.Tests.{not-true, not-false}
 -- src/lib.rt:34:1
 use native.Mathlib.Omega.{arith}
 use mathlib.Core.Path.{sym, ap, ◌∙◌}
-use Rattle.image.specs.OpenedLaws.{opened_as, not_opened}
+use Rattle.image.proofs.OpenedLaws.{opened_as, not_opened}
 use Rattle.requests.specs.Meaning.{token_read_of}
 use Rattle.validation.specs.Validation.{ready-token, not_an_image, not_a_token}
 use Rattle.validation.proofs.validate_active_snapshot_lease.Reads as reads

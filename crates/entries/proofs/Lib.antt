@@ -1,0 +1,9 @@
+pub mod Sized
+pub mod Kept
+pub mod Ways
+pub mod Agrees
+pub mod CallerHistory
+pub mod HistoryExample
+pub mod ByteHistoryLaws
+pub mod ByteEdgeLaws
+pub mod EdgeLaws

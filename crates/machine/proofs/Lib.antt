@@ -1,0 +1,10 @@
+pub mod TestLaws
+pub mod ExpiredLaws
+pub mod ApplyLaws
+pub mod LedgerLaws
+pub mod Invariant
+pub mod History
+pub mod FormedLaws
+pub mod Statuses
+pub mod Corners
+pub mod EdgeLaws

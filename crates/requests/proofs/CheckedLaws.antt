@@ -1,0 +1,114 @@
+-- Checked first, then read without checks: together they are what reading to the end finds.
+use Prim.Native.Nat.{ℕ, zero, suc, ◌-◌, ◌≤◌, ◌<◌}
+use Rattle.std.proofs.Common.{arith, ◌∙◌, leb-true, leb-false}
+use Rattle.std.proofs.Math.Path.{◌≡◌, refl, ap}
+use mathlib.Core.List.{List, [], ◌∷◌}
+use Rattle.std.specs.Prelude.{Bool, true, false, leb, drop}
+use Rattle.std.proofs.Math.ListN.{length, length-drop}
+use Rattle.machine.specs.Actions.{Action}
+use Rattle.fields.specs.Format.{Malformed, Res, ok, bad, bind, Field, El, dec}
+use Rattle.fields.specs.Codes.{codes, walk, forget}
+use Rattle.fields.proofs.CodeLaws.{walk-codes}
+use Rattle.fields.specs.Walks.{walk_of, Rest, Leaves}
+use Rattle.fields.proofs.WalkLaws.{rest_trans, rest-drop}
+use Rattle.fields.specs.declared.Walk.TheVariants.{End, Fault}
+use Rattle.image.specs.Contents.{Reply, answer, refusal, whole}
+use Rattle.requests.specs.Cases.{Case, read_case}
+use Rattle.requests.specs.Request.{actions, read_fields}
+use Rattle.requests.specs.Peek.{peek}
+use Rattle.requests.proofs.PeekLaws.{peek-dec}
+use Rattle.requests.specs.declared.Checked.{Checked}
+use Rattle.requests.specs.Checked.{Other, checked_of, nth, peek_action, peek_case, retire}
+
+-- A WALK THAT ENDED at a place: whole where that is the end, and else bytes are left
+module _ {A : Type 0} (s : List ℕ) (at e : ℕ) where
+  pub walk-whole : (m : Res A) → Leaves (drop at s) m → walk_of s m ≡ End e → length s ≤ e → Checked.Whole ≡ checked_of (whole m)
+  unfolding whole
+  walk-whole (ok v []) l h k = refl
+  walk-whole (ok v (x ∷ r)) l h k =
+      let a : Rest s (x ∷ r) = rest_trans (rest-drop at s) (l.rest v (x ∷ r) refl) in
+      let n : suc (length r) ≡ length s - a.bytes = ap length a.is ∙ length-drop a.bytes s in
+      let z : length s - suc (length r) ≡ e = cc in
+      absurd (omega arith)
+  walk-whole (bad x) l h k = let z : ◌≡◌ {A = ℕ} 0 1 = cc in absurd (omega arith)
+
+  pub walk_surplus : (m : Res A) → walk_of s m ≡ End e → e < length s → Checked.Fault Malformed ≡ checked_of (whole m)
+  unfolding whole
+  walk_surplus (ok v []) h k = let z : length s - 0 ≡ e = cc in absurd (omega arith)
+  walk_surplus (ok v (x ∷ r)) h k = refl
+  walk_surplus (bad x) h k = let z : ◌≡◌ {A = ℕ} 0 1 = cc in absurd (omega arith)
+
+pub walk-fault : {A : Type 0} (s : List ℕ) (e : ℕ) (m : Res A) → walk_of s m ≡ Fault e → Checked.Fault e ≡ checked_of (whole m)
+unfolding whole
+walk-fault s e (ok v r) h = let z : ◌≡◌ {A = ℕ} 0 1 = cc in absurd (omega arith)
+walk-fault s e (bad x) h = let q : e ≡ x = cc in ap (λ (y : ℕ). Checked.Fault y) q
+
+pub reply-fault : {A : Type 0} (r : Reply A) (e : ℕ) → checked_of r ≡ Checked.Fault e → refusal e ≡ r
+reply-fault (answer v) e h = let z : ◌≡◌ {A = ℕ} 0 1 = cc in absurd (omega arith)
+reply-fault (refusal x) e h = let q : e ≡ x = cc in ap refusal q
+
+-- ONE RECORD: the check says whether it is read; where it is, its fields are those that are read without checks
+module _ {A : Type 0} (f : Field) (make : El f → A) (s : List ℕ) where
+  abbrev made : Res (El f) → Reply A
+  made m = whole (bind m (λ v r. ok (make v) r))
+
+  same_check : (m : Res (El f)) → checked_of (whole (forget m)) ≡ checked_of (made m)
+  unfolding whole
+  same_check (ok v []) = refl
+  same_check (ok v (x ∷ r)) = refl
+  same_check (bad e) = refl
+
+  pub check-is : checked_of (whole (walk 0 (codes f) s)) ≡ checked_of (made (dec f s))
+  check-is = ap (λ (m : Res (Unit {0})). checked_of (whole m)) (walk-codes f s) ∙ same_check (dec f s)
+
+  pub made-whole : checked_of (made (dec f s)) ≡ Checked.Whole → answer (make (peek f s)) ≡ made (dec f s)
+  unfolding whole
+  made-whole = go (dec f s) refl
+    where
+      go : (m : Res (El f)) → dec f s ≡ m → checked_of (made m) ≡ Checked.Whole → answer (make (peek f s)) ≡ made m
+      go (ok v []) e h = ap (λ (w : El f). answer (make w)) (peek-dec f s v [] e)
+      go (ok v (x ∷ r)) e h = let z : ◌≡◌ {A = ℕ} 0 1 = cc in absurd (omega arith)
+      go (bad x) e h = let z : ◌≡◌ {A = ℕ} 0 1 = cc in absurd (omega arith)
+
+pub nth_past : {A : Type 0} (d : A) (cs : List A) (k : ℕ) → length cs ≤ k → nth d cs k ≡ d
+nth_past d [] k h = refl
+nth_past d (c ∷ cs) zero h = absurd (omega arith)
+nth_past d (c ∷ cs) (suc k) h = nth_past d cs k (omega arith)
+
+pub case_whole : {A : Type 0} (d : Case A) (cs : List (Case A)) (k : ℕ) (s : List ℕ) → checked_of (whole (read_case cs k s)) ≡ Checked.Whole → answer (peek_case (nth d cs k) s) ≡ whole (read_case cs k s)
+unfolding read_case whole
+case_whole d [] k s h = let z : ◌≡◌ {A = ℕ} 0 1 = cc in absurd (omega arith)
+case_whole d (c ∷ cs) zero s h = made-whole c.shape c.make s h
+case_whole d (c ∷ cs) (suc k) s h = case_whole d cs k s h
+
+pub fields_whole : (k : ℕ) (s : List ℕ) → checked_of (whole (read_fields k s)) ≡ Checked.Whole → answer (peek_action k s) ≡ whole (read_fields k s)
+unfolding read_fields whole
+fields_whole zero s h = let z : ◌≡◌ {A = ℕ} 0 1 = cc in absurd (omega arith)
+fields_whole (suc k) s h = case_whole retire actions k s h
+
+pub other_past : (n k : ℕ) → Other n k → 1 ≤ k → n < k
+other_past zero k h l = l
+other_past (suc n) k h l = let m : n < k = other_past n k h.0 l in let q : k ≡ suc n → ⊥ = h.1 in omega arith
+
+-- the last of a list is taken for every other byte
+pub nth_other : {A : Type 0} (d : A) (cs : List A) (n : ℕ) → length cs ≡ suc n → nth d cs n ≡ d → (k : ℕ) → (1 ≤ k → n < k) → nth d (d ∷ cs) k ≡ d
+nth_other d cs n m e zero h = refl
+nth_other d cs n m e (suc k) h = go (leb (length cs) k) refl
+  where
+    l : n < suc k
+    l = h (omega arith)
+
+    go : (b : Bool) → leb (length cs) k ≡ b → nth d cs k ≡ d
+    go true q = nth_past d cs k (leb-true (length cs) k q)
+    go false q = let o : k < length cs = leb-false (length cs) k q in let z : k ≡ n = omega (arith, l, o, m) in ap (nth d cs) z ∙ e
+
+-- no action has such a byte
+pub fields_none : (k : ℕ) (s : List ℕ) → (1 ≤ k → 17 < k) → read_fields k s ≡ bad Malformed
+unfolding read_fields read_case
+fields_none zero s h = refl
+fields_none (suc k) s h = go actions k (let l : 17 < suc k = h (omega arith) in omega arith)
+  where
+    go : (cs : List (Case Action)) (k : ℕ) → length cs ≤ k → read_case cs k s ≡ bad Malformed
+    go [] k h = refl
+    go (c ∷ cs) zero h = absurd (omega arith)
+    go (c ∷ cs) (suc k) h = go cs k (omega arith)
