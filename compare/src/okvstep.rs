@@ -8,7 +8,7 @@ use std::io::{Read, Write};
 use std::process::{Command, Stdio};
 
 /// The program, from the folder of the repository.
-const PROGRAM: &str = "target/bin/okvstep";
+const PROGRAM: &str = "crates/okvstep/out/okvstep";
 
 /// The lines for an input.
 pub fn lines(input: &[u8]) -> String {

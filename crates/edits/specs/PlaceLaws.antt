@@ -1,12 +1,11 @@
 -- A change by id of a table of the image, by the table's name: what stands at the place of the id, and the tables after a row is
 -- put in there, or taken out.
 use Rattle.std.specs.Prelude.{ℕ, ◌+◌, ◌-◌, ◌≤◌, ◌<◌, cond, List, [], ◌∷◌, ◌++◌, ◌≡◌, refl, ltb, length, drop, set}
-use Rattle.std.proofs.Common.{arith, append_assoc, append-nil, sym, ap, ◌∙◌, length-append, length-drop, ltb-true, ltb-false}
+use Rattle.std.proofs.Common.{arith, sym, ap, ◌∙◌, length-append, length-drop, ltb-true, ltb-false}
 use Rattle.std.proofs.Math.Option.{none, some}
 use Rattle.parts.specs.Gather.{run, gather_of}
 use Rattle.state.specs.Maps.{Text, Map, Entry, ◌⟼◌, is_some, has_key, lookup, insert, remove}
 use Rattle.state.proofs.MapLaws.{by_test}
-use Rattle.state.proofs.Places.{at}
 use Rattle.state.specs.Records.{State}
 use Rattle.fields.specs.Format.{all, enc, enc_text, Within}
 use Rattle.fields.specs.Codes.{codes, codes_of, shape}
@@ -20,7 +19,7 @@ use Rattle.image.proofs.StoredLaws.{stored_in}
 use Rattle.image.specs.TableLaws.{index, table_in, tables_place, before, behind}
 use Rattle.image.proofs.TablePlaceLaws.{joined_with, tables-low, size_is, count-is, table_here, around_here, table-starts, tables_with}
 use Rattle.image.specs.declared.Contents.{Contents}
-use Rattle.next.specs.Edit.{Spot, place-low, run_row, none-there, some_there, row-there, insert-size, remove-size, insert-count, remove-count, removed_run, inserted_run}
+use Rattle.next.specs.Edit.{Spot, none-there, some_there, row-there, insert-size, remove-size, insert-count, remove-count, removed_run, inserted_run}
 use Rattle.edits.specs.Changes.{after_insert, after_remove}
 
 -- the place of an id in a table

@@ -1,10 +1,9 @@
 -- A state has an image just where it is well formed, its texts within the limits, its tables and its image within theirs.
-use Rattle.std.specs.Prelude.{ℕ, ◌≤◌, ◌≡◌, true, leb, length}
+use Rattle.std.specs.Prelude.{ℕ, ◌≡◌, true, leb, length}
 use Rattle.std.proofs.Math.Path.{refl}
 use mathlib.Core.List.{[], ◌∷◌}
 use Rattle.std.proofs.Math.Option.{Option, none, some}
 use Rattle.std.proofs.Common.{leb-true}
-use Rattle.parts.specs.Answer.{longest}
 use Rattle.state.specs.Maps.{Text, Map, Entry, ◌⟼◌}
 use Rattle.state.specs.Sorted.{Each}
 use Rattle.state.specs.Sorted.{Below, Ascending}
@@ -15,11 +14,11 @@ use Rattle.fields.proofs.FormatLaws.{and_true}
 use Rattle.fields.specs.Codes.{set_most, key_limit}
 use Rattle.machine.specs.Formed.{Texts, Maybe, Table, ReferenceFits, IntentAt, Formed as WellFormed}
 use Rattle.image.specs.Body.{row, id, roomy}
-use Rattle.image.specs.Shapes.{short, reference, intent, prepared, permit, lease, job, each_option, reference_parts, prepared_parts, permit_parts, lease_parts, job_parts}
+use Rattle.image.specs.Shapes.{short, reference, prepared, permit, lease, job, each_option, reference_parts, prepared_parts, permit_parts, lease_parts, job_parts}
 use Rattle.image.specs.Stored.{OwnKey}
 use Rattle.image.proofs.StoredLaws.{ascending_of, each_of}
 use Rattle.image.proofs.StoredLaws.{own_keys}
-use Rattle.image.specs.Layout.{bodies, each, row_of, own_row, state_parts, encode_image, Formed}
+use Rattle.image.specs.Layout.{bodies, each, row_of, own_row, state_parts, Formed}
 use Rattle.image.proofs.LayoutLaws.{whole_of, reservations_own, leases_own, jobs_own}
 
 -- THE TEXTS OF AN IMAGE: what `Formed` of the machine leaves open. With them what fits is what is within the formats, but for

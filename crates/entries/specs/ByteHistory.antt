@@ -4,7 +4,6 @@ use Rattle.std.specs.Prelude.{ℕ, List}
 use Rattle.parts.specs.Answer.{Answer, no, yes}
 use Rattle.machine.specs.Ledger.{Event, refused}
 use Rattle.machine.specs.Claims.{Machine}
-use Rattle.image.specs.Contents.{answer}
 use Rattle.entries.specs.Caller.{reply, event, over_bytes}
 
 -- the image that a call leaves, and what was told, by its answer

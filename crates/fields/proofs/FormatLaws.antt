@@ -1,5 +1,5 @@
 -- The laws of the formats: what is written is read back, and what is read is as it would be written.
-use Prim.Native.Nat.{ℕ, zero, suc, ◌+◌, ◌^◌, ◌<◌}
+use Prim.Native.Nat.{ℕ, zero, suc, ◌^◌, ◌<◌}
 use Rattle.std.proofs.Common.{arith, ◌∙◌, length-append, take-append-drop, length-take-le, le-leb, ltb-true, leb-true}
 use Rattle.std.specs.Prelude.{Bool, true, false, ◌&&◌, ◌≡◌, length, take, drop, leb, ltb}
 use mathlib.Core.List.{List, [], ◌∷◌, ◌++◌, append_assoc}

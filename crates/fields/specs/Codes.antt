@@ -1,6 +1,6 @@
 -- A format as a flat list of codes, for a loop. The checked walk finds the first fault as `dec` does; the skip walk hops to where `dec` ends.
 use Rattle.std.specs.Prelude.{ℕ, zero, suc, ◌+◌, ◌-◌, Bool, true, false, cond, ◌&&◌, List, [], ◌∷◌, ◌++◌, map, leb, ltb, eqb, length, drop}
-use Rattle.fields.specs.Format.{Malformed, Res, ok, bad, bind, byte, many, read_kind, read_text, after, read_set, Field, nothing, number, kind, text, option, set, ◌▹◌}
+use Rattle.fields.specs.Format.{Malformed, Res, ok, bad, bind, many, read_kind, read_text, read_set, Field, nothing, number, kind, text, option, set, ◌▹◌}
 
 pub data Code : Type 0 where
   a_number : (bytes : ℕ) → Code

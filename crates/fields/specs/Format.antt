@@ -1,6 +1,6 @@
 -- The kinds of fields, the values that each holds, how a value is written, and what reading finds.
 -- A record is one field and then the rest (`▹`). A set and a table are both `rows`: items in strictly ascending order of their keys.
-use Rattle.std.specs.Prelude.{ℕ, zero, suc, ◌+◌, ◌^◌, ◌≤◌, ◌<◌, Bool, true, false, ◌&&◌, List, [], ◌∷◌, ◌++◌, ◌≡◌, length, take, drop, leb}
+use Rattle.std.specs.Prelude.{ℕ, zero, suc, ◌^◌, ◌≤◌, ◌<◌, Bool, true, false, ◌&&◌, List, [], ◌∷◌, ◌++◌, ◌≡◌, length, take, drop, leb}
 use Rattle.std.proofs.Math.Option.{Option, none, some}
 use Rattle.text.specs.Utf8.{utf8}
 use Rattle.parts.specs.Digits.{digits, value, Bytes}

@@ -2,7 +2,7 @@
 use Rattle.std.specs.Prelude.{ℕ, zero, suc, List, [], ◌∷◌, take}
 use Rattle.std.proofs.Math.Option.{Option, some}
 use Rattle.state.specs.Maps.{Text}
-use Rattle.fields.specs.Format.{Malformed, Res, ok, bind, check, after, text}
+use Rattle.fields.specs.Format.{Malformed, Res, ok, bind, check, after}
 use Rattle.fields.specs.Codes.{Code, walk}
 
 -- the text at the head: its length byte, and so many bytes or what there is of them

@@ -1,7 +1,6 @@
 -- A walk over a slice from a position: where it ends, or the first fault.
 use Rattle.std.specs.Prelude.{ℕ, ◌-◌, ◌≤◌, List, ◌≡◌, length, take, drop}
-use Rattle.fields.specs.Format.{Res, ok, bad, many}
-use Rattle.fields.specs.Codes.{walk}
+use Rattle.fields.specs.Format.{Res, ok, bad}
 use Rattle.fields.specs.declared.Walk.{Walk}
 use Rattle.fields.specs.declared.Walk.TheVariants.{End, Fault}
 use Rattle.fields.specs.declared.Step.{Step}

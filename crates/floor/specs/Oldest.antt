@@ -1,6 +1,6 @@
 -- On the bytes of a state's leases, the oldest version row by row is that of the map.
 use Rattle.std.specs.Prelude.{ℕ, ◌^◌, ◌<◌, min, List, [], ◌∷◌, ◌++◌, ◌≡◌, refl, take, drop}
-use Rattle.std.proofs.Common.{append_assoc, sym, ap, ◌∙◌}
+use Rattle.std.proofs.Common.{append_assoc, ap, ◌∙◌}
 use Rattle.parts.specs.Digits.{digits, value}
 use Rattle.state.specs.Maps.{Map, ◌⟼◌, key_of}
 use Rattle.state.specs.Sorted.{Each}

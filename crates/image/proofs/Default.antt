@@ -1,5 +1,5 @@
 -- The default image is the front of contents with no row: format 1, and zeros.
-use Rattle.std.specs.Prelude.{ℕ, ◌-◌, ◌≤◌, List, [], ◌∷◌, ◌++◌, ◌≡◌, refl, length, take, drop}
+use Rattle.std.specs.Prelude.{◌-◌, ◌≤◌, [], ◌∷◌, ◌≡◌, refl, length, take, drop}
 use Rattle.std.proofs.Common.{arith, append-nil, sym, ap, ◌∙◌, subst, take-take}
 use Rattle.parts.specs.Digits.{digits}
 use Rattle.parts.specs.Gather.{gather_of}

@@ -1,9 +1,9 @@
 -- In every form a state that has an image is read back from it, and an image is that of the state it holds; and bytes are
 -- an image in one form at most.
-use Prim.Native.Nat.{ℕ, ◌+◌, ◌*◌, ◌^◌, ◌≤◌, ◌<◌}
+use Prim.Native.Nat.{ℕ, ◌^◌, ◌≤◌, ◌<◌}
 use Rattle.std.proofs.Common.{arith, ◌∙◌, take_at, drop_at}
 use Rattle.std.proofs.Math.Path.{◌≡◌, refl, sym, ap, subst}
-use Rattle.std.specs.Prelude.{Bool, true, false, cond, leb, eqb, take, drop}
+use Rattle.std.specs.Prelude.{Bool, true, false, cond, leb, take, drop}
 use mathlib.Core.List.{List, [], ◌∷◌, ◌++◌, append-nil, append_assoc}
 use Rattle.std.proofs.Math.Option.{Option, none, some}
 use Rattle.std.proofs.Math.ListN.{length}
@@ -16,12 +16,12 @@ use Rattle.parts.specs.Digits.{Bytes, digits, value}
 use Rattle.parts.specs.DigitLaws.{length_digits, value-digits}
 use Rattle.fields.specs.Format.{Res, ok, bad, enc}
 use Rattle.fields.proofs.FormatLaws.{small}
-use Rattle.image.specs.Body.{Helds, FitsAll, writes}
-use Rattle.image.specs.Contents.{Widths, version_width, header, contents, encode, decode, whole}
+use Rattle.image.specs.Body.{Helds, FitsAll}
+use Rattle.image.specs.Contents.{Widths, version_width, contents, encode, decode, whole}
 use Rattle.image.proofs.BodyLaws.{small_bodies}
 use Rattle.image.proofs.ContentsLaws.{ImageOk, countable, decode-encode, Decoded, encode-decode, bytes-encode}
 use Rattle.image.specs.Shapes.{prepared_parts, prepared_from, reference_parts, reference_from, lease_parts, lease_from, job_parts, job_of, permit_parts, permit_from, prepared-there, prepared-back, reference-there, reference-back}
-use Rattle.image.specs.Layout.{each, row_of, entry_of, own_row, own_entry, Own, TableName, intents, roots, pins, reservations, leases, jobs, plain, Form, bodies_in, first_in, parts_in, state_in, encode_in, decode_in, held_in, is_in, Read, read_as, read_in, FormedIn, base, forms, written, most_intents, most_roots, most_pins, most_reservations, most_leases, most_jobs, encode_image, read_image, state_read, decode_image, Formed, Imaged}
+use Rattle.image.specs.Layout.{each, row_of, entry_of, own_row, own_entry, Own, intents, roots, pins, reservations, leases, jobs, plain, Form, bodies_in, first_in, parts_in, state_in, encode_in, decode_in, held_in, is_in, Read, read_as, read_in, FormedIn, base, forms, written, most_intents, most_roots, most_pins, most_reservations, most_leases, most_jobs, encode_image, read_image, state_read, decode_image, Formed, Imaged}
 
 -- a form is sound where its parts come back as they went, its counts fit their width, and so does its first offset
 pub record Sound (f : Form) : Type 0 where

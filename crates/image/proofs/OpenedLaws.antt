@@ -20,7 +20,7 @@ use Rattle.image.proofs.LayoutLaws.{In, here, there, one-image, within-written}
 use Rattle.image.specs.ImageParts.{TableBytes, names, names_in, tables_named, tables_of, joined, numbers_of, before_window, words, scalars_bytes, tables_at}
 use Rattle.image.proofs.ImagePartLaws.{at-scalars, at-tables, length-image}
 use Rattle.image.proofs.ImagePartLaws.{scalars-is, next-at}
-use Rattle.image.specs.Opened.{root_of, laid, contents_in, opened_of, root_flag, root_start, root_width, root_bytes, root_text_of, nowhere, Shows, Holds}
+use Rattle.image.specs.Opened.{root_of, laid, contents_in, opened_of, root_width, root_bytes, root_text_of, nowhere, Holds}
 use Rattle.image.specs.declared.Contents.{Contents}
 use Rattle.image.specs.declared.Opened.{Opened}
 

@@ -2,7 +2,7 @@
 -- A form is a value: the widths of a contents entry, the scalars, and the tables in their order with their limits. Where
 -- the first body stands follows from it, and bytes are read in the form whose first offset they have. A table that a form
 -- lacks is empty, and a number that it lacks is 0.
-use Rattle.std.specs.Prelude.{ℕ, ◌+◌, ◌^◌, ◌≤◌, ◌<◌, ◌≡◌, Bool, cond, List, [], ◌∷◌, leb, eqb, length, take, drop}
+use Rattle.std.specs.Prelude.{ℕ, ◌^◌, ◌≤◌, ◌<◌, ◌≡◌, Bool, cond, List, [], ◌∷◌, leb, eqb, length, take, drop}
 use Rattle.std.proofs.Math.Option.{Option, none, some}
 use Rattle.state.specs.Maps.{Text, Map, Entry, ◌⟼◌, key_of, value_of}
 use Rattle.state.specs.Records.{ObjectReference, PreparedPublication, SnapshotLeaseToken, CollectionJobToken, DeletePermit, State, default}

@@ -1,9 +1,8 @@
 -- What is stored in a state that has an image: its tables ascend, each record is within its format and under its own id, and the
 -- hops over the bytes of its tables find it.
-use Rattle.std.specs.Prelude.{ℕ, ◌-◌, ◌≡◌}
+use Rattle.std.specs.Prelude.{ℕ, ◌≡◌}
 use Rattle.std.proofs.Math.Option.{some}
 use Rattle.state.specs.Maps.{Text, Map, Entry, ◌⟼◌, key_of, lookup}
-use Rattle.state.proofs.Places.{at}
 use Rattle.state.specs.Sorted.{Ascending}
 use Rattle.state.specs.Records.{State}
 use Rattle.fields.specs.Format.{Every, Field, El, enc, Within}

@@ -2,7 +2,6 @@
 -- the tables of the state with another map in its place.
 use Rattle.std.specs.Prelude.{ℕ, suc, List, take, drop, get_or}
 use Rattle.state.specs.Records.{State}
-use Rattle.fields.specs.Format.{all}
 use Rattle.image.specs.Layout.{TableName, intents, roots, pins, reservations, leases, jobs}
 use Rattle.image.specs.ImageParts.{tables_of, joined}
 use Rattle.image.specs.Opened.{nowhere}

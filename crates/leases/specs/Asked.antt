@@ -1,5 +1,5 @@
 -- The lease that a request asks for: its fields as they stand in the request, and the parts that write it.
-use Rattle.std.specs.Prelude.{ℕ, ◌+◌, ◌-◌, ◌≡◌, refl, drop}
+use Rattle.std.specs.Prelude.{ℕ, ◌+◌, ◌≡◌, refl, drop}
 use native.Mathlib.Omega.{arith}
 use mathlib.Core.List.{List, [], ◌∷◌, ◌++◌, append_assoc, append-nil}
 use Rattle.std.proofs.Math.Path.{sym, ap}

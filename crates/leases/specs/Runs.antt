@@ -8,7 +8,7 @@ use Rattle.parts.specs.DigitLaws.{length_digits}
 use Rattle.parts.specs.Gather.{gather_of, run}
 use Rattle.state.specs.Records.{SnapshotLeaseToken, State, AuthorityContext}
 use Rattle.fields.specs.Format.{Field, ◌▹◌, El, enc, enc_text}
-use Rattle.image.specs.Shapes.{u64, name, position, closure, lease, lease_parts, closure_parts}
+use Rattle.image.specs.Shapes.{u64, name, closure, lease, lease_parts, closure_parts}
 use Rattle.machine.specs.Next.{up, renewed_lease}
 use Rattle.image.proofs.OpenedLaws.{run-to, after_seam}
 

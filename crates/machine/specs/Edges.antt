@@ -3,7 +3,7 @@
 -- Faults off, generation 1; window 3 and frontier 10 stand before every row.
 use Rattle.std.specs.Prelude.{ℕ, List, [], ◌∷◌, map, Bool, false, ◌&&◌, eqb, replicate, length}
 use Rattle.std.proofs.Math.Option.{Option, none, some}
-use Rattle.state.specs.Maps.{Text, Map, ◌⟼◌, key_of, before, same_texts, all, insert, is_empty}
+use Rattle.state.specs.Maps.{Text, Map, ◌⟼◌, key_of, before, same_texts, insert, is_empty}
 use Rattle.state.specs.Records.{AuthorityContext, no_faults, Manifest, ObjectIdentity, ObjectReference, SnapshotClosure, SnapshotLeaseToken, State, default}
 use Rattle.state.specs.Setters.{set_deletion_reservations, set_leases, set_lease_clock_tick}
 use Rattle.machine.specs.Actions.{Action, ObserveCommittedFrontier, SetRetentionWindow, ObserveRangeMapEpoch, ConfigureCollectionRoot, AcquireLease, RenewLease, ReleaseLease, AdvanceLeaseClock, PrepareCollection, Prepare, Publish, Pin, ReserveDelete, Transition, rejected, accepted}

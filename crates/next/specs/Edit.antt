@@ -18,7 +18,6 @@ use Rattle.fields.specs.Codes.{Code}
 use Rattle.tables.specs.Seek.{Seen, seek, placed}
 use Rattle.tables.specs.SeekLaws.{Hopped}
 use Rattle.tables.specs.declared.Place.{Place}
-use Rattle.image.specs.Body.{row}
 use Rattle.image.proofs.TableRowLaws.{bytes_split, bytes-insert, bytes-remove}
 use Rattle.image.proofs.StoredLaws.{find_place}
 use Rattle.image.proofs.OpenedLaws.{run-to, after_seam}

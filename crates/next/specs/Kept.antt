@@ -1,5 +1,5 @@
 -- What a transition keeps of the old image: its tables as they stand, and contents with other numbers or another table.
-use Rattle.std.specs.Prelude.{ℕ, ◌+◌, ◌≤◌, List, [], ◌∷◌, ◌++◌, ◌≡◌, length, take, drop, get_or}
+use Rattle.std.specs.Prelude.{ℕ, ◌≤◌, List, [], ◌∷◌, ◌≡◌, length, take, drop, get_or}
 use Rattle.std.proofs.Common.{arith, append-nil, sym, ap, ◌∙◌, subst, length-append, length-drop, take_all}
 use Rattle.std.proofs.Math.Option.{Option, none, some}
 use Rattle.parts.specs.Answer.{longest}

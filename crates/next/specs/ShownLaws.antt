@@ -1,13 +1,12 @@
 -- Contents that show a state, changed, show the state with the same change; and they stay small.
-use Rattle.std.specs.Prelude.{ℕ, zero, suc, ◌≤◌, List, [], ◌∷◌, ◌≡◌, refl, length, get_or, set}
+use Rattle.std.specs.Prelude.{ℕ, zero, suc, ◌≤◌, List, [], ◌∷◌, ◌≡◌, get_or, set}
 use Rattle.std.proofs.Common.{sym, ap, ◌∙◌, subst, length-set}
 use Rattle.state.specs.Maps.{Map}
 use Rattle.state.specs.Records.{State}
 use Rattle.state.specs.Setters.{set_revision}
 use Rattle.image.specs.Layout.{TableName, intents, roots, pins, reservations, leases, jobs, Value, with_map}
-use Rattle.image.specs.ImageParts.{Measure, measures, tables_of, numbers_of}
-use Rattle.image.specs.Opened.{number_of, numbers_in, measure_in, measures_in, Shows}
-use Rattle.image.specs.TableLaws.{index}
+use Rattle.image.specs.ImageParts.{Measure, measures, tables_of}
+use Rattle.image.specs.Opened.{measure_in, measures_in, Shows}
 use Rattle.image.proofs.TablePlaceLaws.{measures-set}
 use Rattle.image.specs.Front.{Light, Small}
 use Rattle.image.specs.declared.Table.{Table}

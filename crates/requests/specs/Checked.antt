@@ -1,11 +1,10 @@
 -- Checked first, then read without checks: together they are what reading to the end finds.
-use Prim.Native.Nat.{ℕ, zero, suc, ◌-◌}
+use Prim.Native.Nat.{ℕ, zero, suc}
 use Rattle.std.proofs.Math.Path.{◌≡◌}
 use mathlib.Core.List.{List, [], ◌∷◌}
 use Rattle.state.specs.Records.{AuthorityContext}
 use Rattle.machine.specs.Actions.{Action, RetireDelete}
 use Rattle.fields.specs.Format.{Field, ◌▹◌, El}
-use Rattle.fields.specs.declared.Walk.TheVariants.{Fault}
 use Rattle.image.specs.Contents.{Reply, answer, refusal}
 use Rattle.image.specs.Shapes.{u64, position, permit, position_from, permit_from}
 use Rattle.requests.specs.Cases.{Case}

@@ -3,7 +3,7 @@
 -- read, and the next.
 use Rattle.std.specs.Prelude.{ℕ, suc, Bool, ◌&&◌, List, [], ◌∷◌, ◌++◌, map, eqb, replicate}
 use Rattle.std.proofs.Math.Option.{none, some}
-use Rattle.state.specs.Maps.{Text, all}
+use Rattle.state.specs.Maps.{Text}
 use Rattle.state.specs.Records.{AuthorityContext, ObjectReference, SnapshotLeaseToken, CollectionJobToken, CollectionReceipt, no_faults}
 use Rattle.machine.specs.Actions.{Action, ConfigureCollectionRoot, AcquireLease, RenewLease, ReleaseLease, PrepareCollection, PublishCollection, AbandonCollection, Prepare, Publish, Pin, Unpin, ReserveDelete, RetireDelete, Outcome, LeasesExpired}
 use Rattle.fields.specs.Format.{Malformed, OverLimit}

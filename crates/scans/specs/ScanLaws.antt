@@ -11,7 +11,7 @@ use Rattle.fields.proofs.RowLaws.{text-there}
 use Rattle.sets.specs.Sets.{texts_of, set_of}
 use Rattle.tables.specs.Seek.{rows_at}
 use Rattle.tables.specs.SeekLaws.{tails, rows_are}
-use Rattle.image.specs.Shapes.{short, u64, name, key, keys, position, reference, prepared, lease, job, reference_parts, prepared_parts, position_parts, before_closure_keys, before_intent_keys, before_manifest_key, before_namespace}
+use Rattle.image.specs.Shapes.{u64, name, key, keys, position, reference, prepared, lease, job, reference_parts, prepared_parts, position_parts, before_closure_keys, before_intent_keys, before_manifest_key, before_namespace}
 use Rattle.image.specs.Layout.{TableName, intents, leases, jobs, Value, map_of, row_format, Formed}
 use Rattle.image.specs.Tables.{intent_row, lease_row, job_row}
 use Rattle.image.specs.ImageParts.{row_bytes}

@@ -1,7 +1,6 @@
 -- A stored set of keys: one count byte, then so many texts. Defined for any bytes, and the set that was read where they decode.
 use Rattle.std.specs.Prelude.{ℕ, zero, suc, List, [], ◌∷◌}
 use Rattle.state.specs.Maps.{Text}
-use Rattle.fields.specs.Format.{after}
 use Rattle.fields.specs.Codes.{hop}
 use Rattle.fields.specs.Rows.{text_here}
 

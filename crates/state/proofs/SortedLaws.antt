@@ -4,11 +4,10 @@ use Rattle.std.specs.Prelude.{◌≡◌, cond}
 use Rattle.std.proofs.Math.Path.{refl, ap}
 use Rattle.std.proofs.Common.{sym, ◌∙◌, subst}
 use mathlib.Core.List.{List, [], ◌∷◌}
-use Rattle.std.proofs.Math.Option.{Option, none, some}
 use Rattle.text.specs.Order.{order_of}
 use Rattle.text.proofs.OrderLaws.{flip, order_flip, order_equal, order_trans}
 use Rattle.text.specs.declared.Order.TheVariants.{Less, Equal, Greater}
-use Rattle.state.specs.Maps.{Text, same, Every, side, Entry, Map, ◌⟼◌, key_of, insert, remove, remove_all}
+use Rattle.state.specs.Maps.{Text, same, Every, side, Map, ◌⟼◌, insert, remove, remove_all}
 use Rattle.state.proofs.MapLaws.{by_test}
 use Rattle.state.specs.Sort.{Pairs}
 use Rattle.state.specs.Sorted.{Below, Ascending, InOrder}

@@ -26,7 +26,7 @@ InOrder x y = order_of (key_of x) (key_of y) ≡ Less
 
 -- A PROPERTY OF WHAT IS FOUND
 abbrev pub Found : {A : Type 0} → (Text → A → Type 0) → Map A → Type 0
-Found P m = (k : Text) (v : _) → lookup k m ≡ some v → P k v
+Found {A} P m = (k : Text) (v : A) → lookup k m ≡ some v → P k v
 
 -- A PROPERTY OF EACH ENTRY
 abbrev pub Each : {A : Type 0} → (Text → A → Type 0) → Map A → Type 0

@@ -1,5 +1,5 @@
 -- The skip walk over a slice from a position: it always ends at a place of the slice.
-use Rattle.std.specs.Prelude.{ℕ, zero, suc, ◌-◌, List, [], ◌∷◌, ◌≡◌, refl, drop}
+use Rattle.std.specs.Prelude.{ℕ, zero, suc, List, [], ◌∷◌, ◌≡◌, refl, drop}
 use Rattle.fields.specs.Codes.{Code, a_number, a_kind, a_text, a_set, maybe, past, passed, skip}
 use Rattle.fields.specs.Walks.{place_of, Rest}
 use Rattle.fields.proofs.WalkLaws.{rest_all, rest-drop, rest_trans, rest-place, hop-rest, hop_set-rest}

@@ -1,4 +1,3 @@
-use Prim.Native.Nat.{◌-◌}
 use mathlib.Core.Path.{sym, ◌∙◌}
 use mathlib.Core.Bool.{false}
 use Rattle.collection_jobs.specs.Conflicts.{conflicts_at, any-start, any-end, any_on, any_found}

@@ -1,4 +1,4 @@
-use Prim.Native.Nat.{ℕ, ◌≤◌, ◌-◌, ◌+◌, zero-le}
+use Prim.Native.Nat.{ℕ, ◌≤◌, ◌+◌, zero-le}
 use native.Mathlib.Nat.{le_refl, sub-zero}
 use Rattle.fields.specs.Format.{read_text, ok}
 use Rattle.fields.specs.Walks.{walk_of, part}

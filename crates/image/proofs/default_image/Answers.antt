@@ -12,11 +12,6 @@
 use mathlib.Core.Path.{ap, ◌∙◌}
 use Rattle.parts.specs.Answer.{written_of, laid_over}
 use Rattle.image.proofs.Default.{default-small, default_is}
-use Rattle.image.proofs.default_image.Reads as reads
-use Rattle.image.proofs.default_image.Lts as lts
-use Rattle.image.proofs.front_of.Reads as front-of-reads
-use Rattle.image.proofs.no_contents.Reads as no-contents-reads
-use Rattle.parts.proofs.write.Reads as write-reads
 use Rattle.image.proofs.default_image.Goals as goal
 
 pub front_of-f-requires : goal.front_of-f-requires

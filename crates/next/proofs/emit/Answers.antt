@@ -58,17 +58,6 @@ use mathlib.Core.Path.{ap, sym, ◌∙◌, subst}
 use Rattle.parts.specs.Gather.{gather_of}
 use Rattle.next.specs.Emit.{emitted}
 use Rattle.next.specs.Outcome.{outcome_bytes, Fits, applied_is, permit-is, acquired-is, renewed-is, prepared-is, published_is}
-use Rattle.next.proofs.emit.Reads as reads
-use Rattle.next.proofs.emit.Lts as lts
-use Rattle.image.proofs.front_of.Reads as front-of-reads
-use Rattle.image.proofs.over_limit.Reads as over-limit-reads
-use Rattle.next.proofs.acquired_parts.Reads as acquired-parts-reads
-use Rattle.next.proofs.commit.Reads as commit-reads
-use Rattle.next.proofs.expired_parts.Reads as expired-parts-reads
-use Rattle.next.proofs.permit_parts.Reads as permit-parts-reads
-use Rattle.next.proofs.prepared_parts.Reads as prepared-parts-reads
-use Rattle.next.proofs.published_parts.Reads as published-parts-reads
-use Rattle.next.proofs.renewed_parts.Reads as renewed-parts-reads
 use Rattle.next.proofs.emit.Goals as goal
 
 pub front_of-f-requires : goal.front_of-f-requires

@@ -3,9 +3,6 @@
 use Prim.Native.Nat.{ℕ}
 use mathlib.Core.Path.{ap}
 use Rattle.next.specs.Contents.{revised_to}
-use Rattle.next.proofs.raised.Reads as reads
-use Rattle.next.proofs.raised.Lts as lts
-use Rattle.next.proofs.up.Reads as up-reads
 use Rattle.next.proofs.raised.Goals as goal
 
 pub returns : goal.returns

@@ -1,5 +1,5 @@
 use mathlib.Core.Path.{ap}
-use Prim.Native.Nat.{◌-◌, ◌+◌}
+use Prim.Native.Nat.{◌+◌}
 use lib.ListN.{length, drop, get_or}
 use Rattle.parts.specs.Over.{going_start, going_more, going_done}
 use Rattle.parts.specs.Gather.{gather_of, piece_of, gather_end, gather_more}

@@ -6,7 +6,7 @@ use Rattle.sets.specs.Sets.{set_of}
 use Rattle.state.specs.Maps.{any}
 use mathlib.Core.Path.{refl, sym, ap, ◌∙◌}
 use mathlib.Core.Bool.{true, false}
-use Prim.Native.Nat.{ℕ, ◌+◌, ◌-◌}
+use Prim.Native.Nat.{ℕ, ◌+◌}
 use native.Mathlib.Omega.{arith}
 use lib.ListN.{drop}
 use Rattle.reserved.proofs.any_located.Goals as goal

@@ -1,6 +1,5 @@
 use Rattle.sets.proofs.Steps.{all-empty, set_at, told, all_none, all_here, all-next}
 use native.Mathlib.Omega.{arith}
-use Prim.Native.Nat.{◌-◌}
 use mathlib.Core.Path.{sym, ap, ◌∙◌}
 use Rattle.text.specs.Same.{prefix_of}
 use Rattle.state.specs.Maps.{all}

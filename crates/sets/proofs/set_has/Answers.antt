@@ -1,5 +1,4 @@
 use Rattle.sets.proofs.Steps.{any-empty, set_at, told, any_none, any_here, any_next}
-use Prim.Native.Nat.{◌-◌}
 use mathlib.Core.Path.{sym, ap, ◌∙◌}
 use native.Mathlib.Omega.{arith}
 use Rattle.state.specs.Maps.{same, contains}

@@ -1,5 +1,4 @@
 use Rattle.sets.proofs.Steps.{all-empty, set_at, all_none, all_here, all-next, empty_not_named, other_named}
-use Prim.Native.Nat.{◌-◌}
 use mathlib.Core.Path.{sym, ap, ◌∙◌}
 use native.Mathlib.Omega.{arith}
 use Rattle.state.specs.Maps.{all}

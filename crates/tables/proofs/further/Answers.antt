@@ -1,5 +1,4 @@
 use mathlib.Core.Path.{sym}
-use Prim.Native.Nat.{◌-◌}
 use Rattle.tables.proofs.Steps.{further_end, further_in}
 use Rattle.tables.proofs.further.Goals as goal
 

@@ -1,6 +1,5 @@
 use mathlib.Core.Path.{sym, ◌∙◌}
 use native.Mathlib.Omega.{arith}
-use Prim.Native.Nat.{◌-◌}
 use Rattle.tables.proofs.Steps.{hop-number, hop-kind, hop_set_code, hop-maybe, hop_text_code, over_none}
 use Rattle.tables.proofs.hop_code.Goals as goal
 

@@ -1,5 +1,4 @@
 use mathlib.Core.Path.{sym}
-use Prim.Native.Nat.{◌-◌}
 use Rattle.tables.proofs.Steps.{flag_end, flag_none, flag_some}
 use Rattle.tables.proofs.hop_flag.Goals as goal
 

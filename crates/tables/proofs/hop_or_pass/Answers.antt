@@ -1,5 +1,4 @@
 use mathlib.Core.Path.{◌∙◌}
-use Prim.Native.Nat.{◌-◌}
 use Rattle.fields.specs.Codes.{code_of}
 use Rattle.tables.proofs.Steps.{hop-here, hop_pass}
 use Rattle.tables.proofs.hop_or_pass.Goals as goal

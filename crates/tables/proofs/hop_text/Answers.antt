@@ -1,6 +1,5 @@
 use mathlib.Core.Path.{sym, ◌∙◌, ap}
 use native.Mathlib.Omega.{arith}
-use Prim.Native.Nat.{◌-◌}
 use Rattle.fields.specs.Walks.{place_of}
 use Rattle.tables.proofs.Steps.{hop-end, hop_on}
 use Rattle.tables.proofs.hop_text.Goals as goal

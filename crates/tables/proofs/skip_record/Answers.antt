@@ -1,6 +1,6 @@
 use mathlib.Core.Path.{sym, ◌∙◌, ap}
 use native.Mathlib.Omega.{arith}
-use Prim.Native.Nat.{ℕ, ◌-◌, zero-le}
+use Prim.Native.Nat.{ℕ, zero-le}
 use lib.ListN.{drop}
 use Rattle.fields.specs.Walks.{place_of}
 use Rattle.fields.proofs.WalkLaws.{drop-within}

@@ -12,11 +12,6 @@ use mathlib.Core.Path.{sym, ap, ◌∙◌}
 use Rattle.image.proofs.OpenedLaws.{opened_as, not_opened}
 use Rattle.requests.specs.Meaning.{token_read_of}
 use Rattle.validation.specs.Validation.{ready-token, not_an_image, not_a_token}
-use Rattle.validation.proofs.validate_active_snapshot_lease.Reads as reads
-use Rattle.validation.proofs.validate_active_snapshot_lease.Lts as lts
-use Rattle.image.proofs.open.Reads as open-reads
-use Rattle.requests.proofs.parse_token.Reads as parse-token-reads
-use Rattle.validation.proofs.validate_opened.Reads as validate-opened-reads
 use Rattle.validation.proofs.validate_active_snapshot_lease.Goals as goal
 
 pub returns-then-not-o : goal.returns-then-not-o

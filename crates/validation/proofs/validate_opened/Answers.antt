@@ -18,11 +18,6 @@ use Rattle.image.specs.Layout.{leases}
 use Rattle.image.specs.Shapes.{lease}
 use Rattle.image.specs.TableLaws.{table_in}
 use Rattle.validation.specs.Validation.{other_format, missing, differs, expired, active}
-use Rattle.validation.proofs.validate_opened.Reads as reads
-use Rattle.validation.proofs.validate_opened.Lts as lts
-use Rattle.parts.proofs.clip.Reads as clip-reads
-use Rattle.tables.proofs.find.Reads as find-reads
-use Rattle.text.proofs.same.Reads as same_Reads
 use Rattle.validation.proofs.validate_opened.Goals as goal
 
 pub returns-then-c-ne1 : goal.returns-then-c-ne1
