@@ -25,7 +25,7 @@ use Rattle.image.specs.Opened.{opened_of}
 use Rattle.entries.specs.ByteHistory.{left_by as left}
 use Rattle.okvstep.specs.declared.Stepped.{Stepped}
 use Rattle.okvstep.specs.Moments.{room, outcome_room, answered, Moment, numbers_of, line_of, stepped_of}
-use Rattle.okvstep.specs.MomentLaws.{moment_start, moment_on, fits, handed}
+use Rattle.okvstep.proofs.MomentLaws.{moment_start, moment_on, fits, handed}
 use Rattle.entries.proofs.Ways.{no_zero}
 
 -- ---- keep: one part, laid over the front

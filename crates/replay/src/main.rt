@@ -10,7 +10,7 @@
 // case with the answer given, and `differs` where it is another one or a byte past it changed; then how many were the same.
 #![tactic(auto)]
 
-ghost use Rattle.std.specs.Prelude.{◌≤◌, length};
+ghost use Rattle.std.specs.Prelude.{◌≡◌, ◌≤◌, length};
 
 use parts::Applied;
 
@@ -308,8 +308,15 @@ fn run(cases: &[u8], next: &mut [u8], outcome: &mut [u8]) {
     }
 }
 
+// Room for the cases. Its clause says only the length: a proof that sees half a million zeros takes too long.
+fn room_for_cases() -> [u8; 524288]
+    ensures { 524288 ≡ length result }
+{
+    [0; 524288]
+}
+
 fn main() {
-    let mut cases = [0u8; 524288];
+    let mut cases = room_for_cases();
     let mut next = [0u8; 65536];
     let mut outcome = [0u8; 16384];
     let n = io::read_full(STDIN, &mut cases);

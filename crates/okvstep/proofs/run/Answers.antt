@@ -1,4 +1,3 @@
-use Prim.Native.Nat.{◌-◌}
 use native.Mathlib.Omega.{arith}
 use mathlib.Core.Path.{refl}
 use Rattle.okvstep.proofs.Steps.{first-within, first_moment}
@@ -6,12 +5,14 @@ use borrow.Author.Rules.{rules}
 use Rattle.okvstep.proofs.run.Goals as goal
 
 pub loop-frames-init : goal.loop-frames-init
-loop-frames-init c = let d = c.args.image.now in
+loop-frames-init c =
+    let d = c.args.image.now in
     let w = c.default_image-w in
-    let h = c.requires.0 in
+    let p = c.requires in
     let e = w.ensures in
-    (omega arith, first-within d _ w.result h e.0 e.1, search rules, c.requires.1, c.requires.2, refl, first_moment d _ w.result h e.0 e.1)
+    (omega arith, first-within d _ w.result p.0 e.answer e.bytes, search rules, p.1, p.2, refl, first_moment d _ w.result p.0 e.answer e.bytes)
 
 pub loop-frames-preserved : goal.loop-frames-preserved
-loop-frames-preserved c = let m = c.step-s.ensures.bytes.1 in
+loop-frames-preserved c =
+    let m = c.step-s.ensures.moment in
     (omega arith, m.1, search rules, search rules, search rules, search rules, m.0)

@@ -1,6 +1,6 @@
 use lib.ListN.{length-set}
 use mathlib.Core.Path.{◌∙◌, refl}
-use Prim.Native.Nat.{◌-◌, zero-le}
+use Prim.Native.Nat.{zero-le}
 use native.Mathlib.Omega.{arith}
 use Rattle.replay.proofs.fill.Goals as goal
 
