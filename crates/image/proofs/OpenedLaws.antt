@@ -20,7 +20,7 @@ use Rattle.image.proofs.LayoutLaws.{In, here, there, one-image, within-written}
 use Rattle.image.specs.ImageParts.{TableBytes, names, names_in, tables_named, tables_of, joined, numbers_of, before_window, words, scalars_bytes, tables_at}
 use Rattle.image.proofs.ImagePartLaws.{at-scalars, at-tables, length-image}
 use Rattle.image.proofs.ImagePartLaws.{scalars-is, next-at}
-use Rattle.image.specs.Opened.{root_of, laid, contents_in, opened_of, root_width, root_bytes, root_text_of, nowhere, Holds}
+use Rattle.image.specs.Opened.{root_of, laid, contents_in, opened_of, root_width, root_bytes, root_text_of, nowhere, Holds, OpenedAs}
 use Rattle.image.specs.declared.Contents.{Contents}
 use Rattle.image.specs.declared.Opened.{Opened}
 
@@ -122,14 +122,6 @@ module _ (f : Form) (s : State) (x : List ℕ) (is : encode_in f s ≡ x) where
     ends = λ i h. laid_end (length x) (tables_of s) (tables_at f s) i
         (sym (ap length (sym is) ∙ length-image f s ∙ ap (λ (ns : List TableName). tables_at f s + length (joined (tables_named ns s))) full)) h;
   }
-
--- WHAT OPENING TELLS of bytes that are an image: contents that hold the state that was read, in whatever form it was
-pub record OpenedAs (x : List ℕ) (c : Contents) : Type 0 where
-  pub state : State
-  pub reads : decode_image x ≡ some state
-  pub formed : Formed state
-  pub holds : Holds x c state
-  pub short : length x ≤ longest
 
 -- every form that is read has all tables
 all-tables : (f : Form) → In f forms → names_in f.tables ≡ names

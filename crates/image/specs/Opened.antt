@@ -1,13 +1,14 @@
 -- What opening an image answers: a function of the form and the state that it holds. And what the contents then show of
 -- the state, which is all that a transition rests on.
-use Rattle.std.specs.Prelude.{ℕ, ◌+◌, ◌-◌, ◌<◌, true, false, List, [], ◌∷◌, ◌++◌, ◌≡◌, length, take, drop, get_or}
+use Rattle.std.specs.Prelude.{ℕ, ◌+◌, ◌-◌, ◌<◌, ◌≤◌, true, false, List, [], ◌∷◌, ◌++◌, ◌≡◌, length, take, drop, get_or}
 use Rattle.std.proofs.Math.Option.{Option, none, some}
 use Rattle.parts.specs.Digits.{digits}
+use Rattle.parts.specs.Answer.{longest}
 use Rattle.parts.specs.Gather.{run}
 use Rattle.state.specs.Maps.{Text}
 use Rattle.state.specs.Records.{State}
 use Rattle.fields.specs.Format.{enc_option, enc_text}
-use Rattle.image.specs.Layout.{Form, Read}
+use Rattle.image.specs.Layout.{Form, Read, decode_image, Formed}
 use Rattle.image.specs.ImageParts.{TableBytes, tables_of, joined, Measure, measures, numbers_of, tables_at}
 use Rattle.image.specs.declared.MaybeNumber.{MaybeNumber}
 use Rattle.image.specs.declared.MaybeNumber.TheVariants.{NoNumber, Number}
@@ -151,3 +152,11 @@ pub record Holds (x : List ℕ) (c : Contents) (s : State) : Type 0 where
   pub root_text : root_text_of x c.scalars.collection_root ≡ s.collection_root
   pub stands : (i : ℕ) → i < length (tables_of s) → drop (get_or c.tables i nowhere).at x ≡ joined (drop i (tables_of s))
   pub ends : (i : ℕ) → i < length (tables_of s) → (get_or c.tables i nowhere).at + length (joined (drop i (tables_of s))) ≡ length x
+
+-- WHAT OPENING TELLS of bytes that are an image: contents that hold the state that was read, in whatever form it was
+pub record OpenedAs (x : List ℕ) (c : Contents) : Type 0 where
+  pub state : State
+  pub reads : decode_image x ≡ some state
+  pub formed : Formed state
+  pub holds : Holds x c state
+  pub short : length x ≤ longest

@@ -11,7 +11,7 @@ use Rattle.machine.specs.Actions.{Action, Transition, rejected, decide}
 use Rattle.machine.specs.Machine.{rule, stamp, apply}
 use Rattle.image.specs.Contents.{answer, refusal}
 use Rattle.image.specs.Layout.{decode_image}
-use Rattle.image.proofs.OpenedLaws.{OpenedAs}
+use Rattle.image.specs.Opened.{OpenedAs}
 use Rattle.image.specs.declared.Contents.{Contents}
 use Rattle.requests.specs.Request.{decode_request, encode_request, WithinRequest}
 use Rattle.requests.proofs.RequestLaws.{request-written}

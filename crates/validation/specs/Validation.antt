@@ -20,7 +20,7 @@ use Rattle.fields.proofs.CodeLaws.{shape-codes}
 use Rattle.tables.specs.Seek.{seek, row_of}
 use Rattle.image.specs.Contents.{answer, refusal}
 use Rattle.image.specs.Layout.{leases, decode_image}
-use Rattle.image.proofs.OpenedLaws.{OpenedAs}
+use Rattle.image.specs.Opened.{OpenedAs}
 use Rattle.image.proofs.SameBytes.{same-lease}
 use Rattle.image.specs.Shapes.{lease, lease_parts}
 use Rattle.image.specs.Stored.{StoredIn}
