@@ -244,7 +244,8 @@ fn in_place(s: &[u8], p: usize, at: usize, w: Walk) -> Walk
     let Walk::End(e) = w else {
         return w;
     };
-    if u32_in(s, p) != at {
+    let elsewhere = u32_in(s, p) != at;
+    if elsewhere {
         return Walk::Fault(MALFORMED);
     }
     if u32_in(s, p + 4) != parts::less(e, at) {
