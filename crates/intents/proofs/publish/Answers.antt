@@ -12,10 +12,6 @@ use Rattle.next.specs.declared.PublicationOutcome.{PublicationOutcome}
 use Rattle.intents.specs.PublishCall.{name_bounds, given_bounds, publish-refused, publish-taken, publish-room, publish-small, publish-shows, publish-tables}
 use Rattle.intents.proofs.publish.Goals as goal
 
--- ?? add-t43 : tie.Need-overflow-add-t43
--- add-t43 c = let b = name_bounds c.before.before.before.before.before.before.before.before.before.before.before.before.before.before.before.before.before.before.before.before.before.before.before.before.before.before.before.before.before.before.before.requires _ c.before.before.before.before.before.before.before.before.before.before.before.before.before.before.before.before.before.before.before.clip.ensures _ c.before.before.before.before.before.before.before.before.before.before.before.before.before.before.before.before.before.before.clip2.ensures in omega (arith, b.0)
---
-
 pub overflow_add-first-3 : goal.overflow_add-first-3
 overflow_add-first-3 c = let b = name_bounds c.requires _ c.clip-id.ensures _ c.clip-root.ensures in omega (arith, b.0, b.1)
 
