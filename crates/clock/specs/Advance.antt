@@ -3,6 +3,7 @@ use Rattle.std.specs.Prelude.{ℕ, ◌+◌, ◌-◌, ◌≤◌, Bool, cond, List
 use Rattle.std.proofs.Common.{arith, append_assoc, sym, ◌∙◌, subst, length-append, ne_eqb}
 use Rattle.std.proofs.Math.Bool.{not}
 use Rattle.std.proofs.Math.Path.{refl, ap}
+use Rattle.parts.specs.declared.Part.{Part}
 use Rattle.parts.specs.Gather.{run, gather_of}
 use Rattle.state.specs.Maps.{Text, Map, Every, select, ◌⟼◌, key_of, entries_where, remove_all}
 use Rattle.state.proofs.MapLaws.{by_test}
@@ -30,7 +31,7 @@ use Rattle.image.proofs.TablePlaceLaws.{joined_with, size_is, count-is, table_he
 use Rattle.image.specs.declared.Contents.{Contents}
 use Rattle.machine.specs.Actions.{rejected, accepted, Rule, decide, LeasesExpired}
 use Rattle.machine.specs.Machine.{act, advance_lease_clock}
-use Rattle.machine.specs.Next.{up, oldest, ends_by, moved, ended, expired, clock_advanced}
+use Rattle.machine.specs.Next.{up, oldest, ends_by, moved, ended, expired, clock_advanced, policy_for}
 use Rattle.machine.proofs.ExpiredLaws.{expired_rearranged, expired-count}
 use Rattle.machine.specs.Tests.{Refusal, ◌when◌, first_of}
 use Rattle.machine.proofs.TestLaws.{Agrees, ◌then◌, first-refuses, first_decides}
@@ -48,7 +49,7 @@ use Rattle.next.specs.Outcome.{RowsStand, outcome_bytes}
 use Rattle.next.specs.declared.LeasesExpired.{LeasesExpired as LeasesExpiredAt}
 use Rattle.next.specs.declared.PublicationOutcome.{PublicationOutcome}
 use Rattle.expiry.specs.Due.{due}
-use Rattle.floor.specs.Floors.{policy_for_window, readable_for_window}
+use Rattle.floor.specs.Floors.{readable_for_window}
 use Rattle.edits.specs.PlaceLaws.{table_bounds}
 use Rattle.leases.specs.Oldest.{oldest_kept}
 use Rattle.leases.specs.Leased.{Leased, recomputed, small-leases}
@@ -186,7 +187,7 @@ module _ {x : List ℕ} {c : Contents} {q : List ℕ} {a : ContextAt} {f : Fault
   pub advance-told : outcome_bytes x q (PublicationOutcome.LeasesExpired (ended_of c tick)) ≡ encode_outcome (LeasesExpired (expired s tick))
   advance-told = ap (λ (m : Map SnapshotLeaseToken). encode_outcome (LeasesExpired (map key_of (ended tick m)))) (leases-here ready.holds ready.formed tick)
 
-  pub advance-tables : {ps : List ℕ} → BodyIs tick x (tables_place c) (table_in leases c).at (table_in leases c).count (table_in jobs c).at ps
+  pub advance-tables : {ps : List Part} → BodyIs tick x (tables_place c) (table_in leases c).at (table_in leases c).count (table_in jobs c).at ps
       → gather_of x q ps ≡ joined (tables_of (clock_advanced s tick f.omit_lease_root_epoch))
   advance-tables g = g.gathers q ∙ tables-left ready.holds ready.formed tick
 
@@ -199,7 +200,7 @@ module _ {x : List ℕ} {c : Contents} {q : List ℕ} {a : ContextAt} {f : Fault
           small-leases (small-held ready.formed ready.holds ready.short) ld
           (omega (arith, ap (λ (u : Tally). u.size) k, kept_low ready.holds ready.formed tick, (table_bounds ready.holds leases).0, ready.short))
 
-      pub advance-shows : policy ≡ policy_for_window c.scalars.retention_window c.scalars.observed_commit_frontier c.scalars.policy_floor
+      pub advance-shows : policy ≡ policy_for c.scalars.retention_window c.scalars.observed_commit_frontier c.scalars.policy_floor
           → epoch ≡ cond (eqb t.ended 0) c.scalars.lease_epoch (up c.scalars.lease_epoch)
           → root-epoch ≡ cond f.omit_lease_root_epoch c.scalars.root_intent_epoch (cond (eqb t.ended 0) c.scalars.root_intent_epoch (up c.scalars.root_intent_epoch))
           → readable ≡ readable_for_window c.scalars.retention_window t.oldest c.scalars.minimum_readable_version

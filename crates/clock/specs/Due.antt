@@ -9,7 +9,7 @@ use Rattle.std.proofs.Common.{◌∙◌, subst, length-drop, length-take}
 use Rattle.std.proofs.Math.ListN.{length, take}
 use Rattle.std.proofs.Math.Seq.{take-append_seam}
 use Rattle.text.specs.Order.{order_of}
-use Rattle.text.specs.declared.Order.TheVariants.{Less}
+use Rattle.std.specs.declared.cmp.Ordering.TheVariants.{Less}
 use Rattle.state.specs.Maps.{Text, Map, Every, select, ◌⟼◌, key_of, entries_where}
 use Rattle.state.proofs.MapLaws.{by_test}
 use Rattle.state.specs.Sorted.{Each}
@@ -19,7 +19,7 @@ use Rattle.state.specs.Sorted.{InOrder}
 use Rattle.state.specs.Records.{SnapshotLeaseToken}
 use Rattle.fields.specs.Format.{all, El, enc, enc_text}
 use Rattle.fields.proofs.FormatLaws.{dec-enc}
-use Rattle.fields.specs.Codes.{codes, skip, codes_of, shape}
+use Rattle.fields.specs.Codes.{codes, skip}
 use Rattle.fields.specs.Walks.{place_of}
 use Rattle.fields.specs.Rows.{text_here}
 use Rattle.tables.specs.SeekLaws.{Hopped, tails}
@@ -51,7 +51,7 @@ ended_count tick (r ∷ rs) = cond (due tick r) (suc (ended_count tick rs)) (end
 
 -- ---- a row that stands at p, and the next at q
 
-module _ (s : List ℕ) (p q : ℕ) (e : q ≡ place_of s (skip 0 (codes_of (shape lease)) (drop p s))) where
+module _ (s : List ℕ) (p q : ℕ) (e : q ≡ place_of s (skip 0 (codes lease) (drop p s))) where
   pub row-size : p ≤ length s → q - p ≡ length (drop p s) - length (skip 0 (codes lease) (drop p s))
   row-size h = omega (arith, next-is s p q e, rest-low s p q e, length-drop p s)
 

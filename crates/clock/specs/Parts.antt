@@ -1,14 +1,16 @@
 -- The parts of what stays.
-use Rattle.std.specs.Prelude.{ℕ, ◌+◌, ◌-◌, ◌≤◌, Bool, true, false, cond, List, [], ◌∷◌, ◌++◌, ◌≡◌, length, drop}
-use Rattle.std.proofs.Common.{arith, ap, ◌∙◌, subst}
+use Rattle.std.specs.Prelude.{ℕ, ◌+◌, ◌-◌, ◌≤◌, Bool, true, false, cond, List, [], ◌∷◌, ◌++◌, ◌≡◌, replicate, length, drop, set}
+use Rattle.std.proofs.Common.{arith, append-nil, ap, ◌∙◌, subst}
 use Rattle.std.proofs.Math.Path.{refl}
-use Rattle.parts.specs.Gather.{run, gather_of, Filled, set_part}
-use Rattle.fields.specs.Codes.{codes, skip, codes_of, shape}
+use Rattle.parts.specs.declared.Part.{Part}
+use Rattle.parts.specs.declared.Part.TheVariants.{First}
+use Rattle.parts.specs.Gather.{run, gather_of, empty, gather_empty, Filled, none, more, set-filled, set_gather}
+use Rattle.fields.specs.Codes.{codes, skip}
 use Rattle.fields.specs.Walks.{place_of}
 use Rattle.tables.specs.Seek.{rows_at}
 use Rattle.image.specs.Shapes.{lease}
 use Rattle.expiry.specs.Due.{due}
-use Rattle.next.specs.Added.{Added, zeros, one-long, one-gathers, more-filled, more-gathers}
+use Rattle.next.specs.Added.{Added}
 use Rattle.clock.specs.Due.{row_of, kept_bytes, row-size}
 
 -- ---- a part for each row
@@ -28,32 +30,42 @@ module _ (tick : ℕ) where
 
   module _ (s : List ℕ) (p q : ℕ) where
     pub kept_run : (gone : Bool) (len long : ℕ) → p ≤ length s → gone ≡ due tick (drop p s)
-        → q ≡ place_of s (skip 0 (codes_of (shape lease)) (drop p s))
+        → q ≡ place_of s (skip 0 (codes lease) (drop p s))
         → long ≡ q - p → len ≡ cond gone 0 long → run s p len ≡ cond (due tick (drop p s)) [] (row_of (drop p s))
     kept_run gone len long h g e w l =
         ap (run s p) (l ∙ ap (λ (b : Bool). cond b 0 long) g) ∙ run_unless (due tick (drop p s)) s p long (row_of (drop p s)) (ap (run s p) (w ∙ row-size s p q e h))
 
 -- ---- the whole list
 
-pub record BodyIs (tick : ℕ) (s : List ℕ) (first at n after : ℕ) (ps : List ℕ) : Type 0 where
+pub record BodyIs (tick : ℕ) (s : List ℕ) (first at n after : ℕ) (ps : List Part) : Type 0 where
   pub gathers : (q : List ℕ) → gather_of s q ps ≡ (run s first (at - first) ++ kept_bytes tick (rows_at (codes lease) n (drop at s))) ++ run s after (length s)
 
--- the tables of the next image
-module _ (tick : ℕ) (s : List ℕ) (first at n after size : ℕ) (a b c : List ℕ) (h : n ≤ 64) (z : size ≡ at - first) (ea : a ≡ set_part (zeros 198) 0 0 first size)
-    (ab : Added (kept_bytes tick) 1 s at n a b) (ec : c ≡ set_part b (n + 1) 0 after (length s))
-  where
-    long : length b ≡ 198
-    long = ab.long ∙ one-long 198 0 first size a ea (omega arith)
+-- the first of the parts, and no others yet
+abbrev pub body_start : (first size : ℕ) → List Part
+body_start first size = First first size ∷ replicate 65 empty
 
-    pub body_is : BodyIs tick s first at n after c
+pub start-filled : (first size : ℕ) → Filled 1 (body_start first size)
+start-filled first size = more (First first size) (none 65)
+
+-- the tables of the next image
+module _ (tick : ℕ) (s : List ℕ) (first at n after size : ℕ) (b : List Part) (h : n ≤ 64) (z : size ≡ at - first)
+    (ab : Added (kept_bytes tick) 1 s at n (body_start first size) b)
+  where
+    long : length b ≡ 66
+    long = ab.long
+
+    start-gathers : (q : List ℕ) → gather_of s q (body_start first size) ≡ run s first (at - first)
+    start-gathers q = ap (λ (l : List ℕ). run s first size ++ l) (gather_empty s q 65) ∙ append-nil (run s first size) ∙ ap (run s first) z
+
+    pub body_is : BodyIs tick s first at n after (set b (n + 1) (First after (length s)))
     body_is = record {
       gathers = λ q.
-          more-gathers (n + 1) 0 after (length s) b c ab.filled (omega (arith, long)) ec s q
+          set_gather b (n + 1) (First after (length s)) ab.filled (omega (arith, long)) s q
           ∙ ap (λ (l : List ℕ). l ++ run s after (length s))
-          (ab.gathers q ∙ ap (λ (l : List ℕ). l ++ kept_bytes tick (rows_at (codes lease) n (drop at s))) (one-gathers 198 0 first size a ea (omega arith) s q ∙ ap (run s first) z));
+          (ab.gathers q ∙ ap (λ (l : List ℕ). l ++ kept_bytes tick (rows_at (codes lease) n (drop at s))) (start-gathers q));
     }
 
-    pub body_filled : Filled (n + 2) c
+    pub body_filled : Filled (n + 2) (set b (n + 1) (First after (length s)))
     body_filled =
         let y : n + 1 + 1 ≡ n + 2 = omega arith in
-        subst (λ (m : ℕ). Filled m c) y (more-filled (n + 1) 0 after (length s) b c ab.filled (omega (arith, long)) ec)
+        subst (λ (m : ℕ). Filled m (set b (n + 1) (First after (length s)))) y (set-filled b (n + 1) (First after (length s)) ab.filled (omega (arith, long)))

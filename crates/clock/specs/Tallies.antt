@@ -7,7 +7,7 @@ use Rattle.std.proofs.Math.Path.{sym, ap}
 use Rattle.std.proofs.Common.{◌∙◌, length-append}
 use Rattle.std.proofs.Math.ListN.{length}
 use Rattle.parts.specs.Digits.{value}
-use Rattle.fields.specs.Codes.{codes, skip, codes_of, shape}
+use Rattle.fields.specs.Codes.{codes, skip}
 use Rattle.fields.specs.Walks.{place_of}
 use Rattle.fields.proofs.WalkLaws.{drop-within}
 use Rattle.tables.specs.Seek.{rows_at}
@@ -73,8 +73,8 @@ module _ (tick floor : ℕ) (s : List ℕ) (at n : ℕ) where
   }
 
   module _ (i p : ℕ) (t : Tally) (k : Counted tick floor s at n i p t) where
-    pub counted_on : (gone : Bool) (version len q : ℕ) → i < n → gone ≡ due tick (drop p s) → version ≡ value (take 8 (skip 0 (codes_of (shape before_version)) (drop p s)))
-        → q ≡ place_of s (skip 0 (codes_of (shape lease)) (drop p s)) → len ≡ q - p
+    pub counted_on : (gone : Bool) (version len q : ℕ) → i < n → gone ≡ due tick (drop p s) → version ≡ value (take 8 (skip 0 (codes before_version) (drop p s)))
+        → q ≡ place_of s (skip 0 (codes lease) (drop p s)) → len ≡ q - p
         → Counted tick floor s at n (i + 1) q (tallied t gone version len)
     unfolding ended_count kept_bytes
     counted_on gone version len q h g v e l =
@@ -93,8 +93,8 @@ module _ (tick floor : ℕ) (s : List ℕ) (at n : ℕ) where
               ∙ ap (λ (b : Bool). t.size + length (cond b [] (row_of (drop p s)) ++ kept_bytes tick rest)) (sym g)
               ∙ size_step gone t.size len (row_of (drop p s)) (kept_bytes tick rest) (row-length s p q e k.p_low ∙ sym l);
           oldest_is =
-              k.oldest_is ∙ kept_on (due tick) s p n i t.oldest version q h v e
-              ∙ ap (λ (b : Bool). oldest_kept (due tick) (cond b t.oldest (min version t.oldest)) rest) (sym g);
+              k.oldest_is ∙ ap (oldest_kept (due tick) t.oldest) next ∙ kept_on (due tick) t.oldest (drop p s) rest
+              ∙ (λ j. oldest_kept (due tick) (cond (sym g j) t.oldest (min (sym v j) t.oldest)) rest);
         }
 
     pub counted-end : n ≤ i → t ≡ tally_of tick floor s at n
@@ -103,5 +103,5 @@ module _ (tick floor : ℕ) (s : List ℕ) (at n : ℕ) where
         let z = rows_none s p n i h in
         let a : t.ended ≡ (tally_of tick floor s at n).ended = let y = k.ended_is ∙ ap (λ (rs : List (List ℕ)). t.ended + ended_count tick rs) z in omega arith in
         let b : t.size ≡ (tally_of tick floor s at n).size = let y = k.size_is ∙ ap (λ (rs : List (List ℕ)). t.size + length (kept_bytes tick rs)) z in omega arith in
-        let c : t.oldest ≡ (tally_of tick floor s at n).oldest = sym (k.oldest_is ∙ kept-end (due tick) s p n i t.oldest h) in
+        let c : t.oldest ≡ (tally_of tick floor s at n).oldest = sym (k.oldest_is ∙ ap (oldest_kept (due tick) t.oldest) z ∙ kept-end (due tick) t.oldest) in
         λ j. record { ended = a j; size = b j; oldest = c j }

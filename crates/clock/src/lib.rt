@@ -2,22 +2,22 @@
 #![tactic(auto)]
 
 ghost use Rattle.std.specs.Prelude.{cond, ◌≡◌, ◌+◌, ◌-◌, ◌≤◌, ◌<◌, eqb, length};
-ghost use Rattle.parts.specs.Answer.{Gave};
+ghost use Rattle.refusals.specs.Numbers.{told};
 ghost use Rattle.parts.specs.Gather.{Filled};
-ghost use Rattle.entries.specs.Bytes.{apply_bytes};
 ghost use Rattle.machine.specs.Next.{up};
 ghost use Rattle.machine.specs.Tests.{first_of};
 ghost use Rattle.requests.specs.declared.PublicationAction.{PublicationAction};
 ghost use Rattle.next.specs.Added.{Added};
-ghost use Rattle.next.specs.Call.{Ready};
+ghost use Rattle.next.specs.Call.{Asks, Answers};
 ghost use Rattle.clock.specs.Due.{kept_bytes};
 ghost use Rattle.clock.specs.Tallies.{tallied, tally_of};
 ghost use Rattle.clock.specs.Parts.{BodyIs};
 ghost use Rattle.clock.specs.Advance.{advance_tests};
 
 use image::{Contents, Table};
-use next::{LeasesExpired, PublicationOutcome};
-use parts::Applied;
+use next::{Call, Change, LeasesExpired, PublicationOutcome};
+use parts::{Lengths, Part};
+use refusals::Refusal;
 use requests::{AdvanceLeaseClock, AuthorityContext, PublicationAuthorityFaults};
 
 // How many leases end, how many bytes stay, and the smallest of a floor and the versions that stay.
@@ -51,23 +51,21 @@ fn count_rows(s: &[u8], at: usize, n: usize, tick: u64, floor: u64) -> Tally
     requires { (n ≤ 64) × (length s.now ≤ 65535) }
     ensures { result ≡ tally_of tick floor s.now at n }
 {
-    let mut i = 0;
     let mut p = fields::within(s, at);
     let mut t = Tally {
         ended: 0,
         size: 0,
         oldest: floor,
     };
-    while i < n {
+    for _ in 0..n {
         let q = tables::skip_record(&image::LEASE, s, p);
         t = count_row(
             t,
             expiry::is_due(s, p, tick),
             tables::number_after(&image::LEASE[..image::LEASE_VERSION], s, p),
-            parts::less(q, p),
+            q.saturating_sub(p),
         );
         p = q;
-        i += 1;
     }
     t
 }
@@ -80,36 +78,29 @@ fn len_unless(gone: bool, n: usize) -> usize
 }
 
 // A part for each row, with its bytes where it stays.
-fn stays(parts: &mut [usize], s: &[u8], at: usize, n: usize, tick: u64)
-    requires { (n ≤ 64) × (length parts.old ≡ 198) × Filled 1 parts.old }
+fn stays(parts: &mut [Part], s: &[u8], at: usize, n: usize, tick: u64)
+    requires { (n ≤ 64) × (length parts.old ≡ 66) × Filled 1 parts.old }
     ensures { Added (kept_bytes tick) 1 s.now at n parts.old parts.new }
 {
-    let mut i = 0;
     let mut p = fields::within(s, at);
-    while i < n {
+    for i in 0..n {
         let q = tables::skip_record(&image::LEASE, s, p);
-        parts::set_part(
-            parts,
-            i + 1,
-            0,
-            p,
-            len_unless(expiry::is_due(s, p, tick), parts::less(q, p)),
-        );
+        let gone = expiry::is_due(s, p, tick);
+        parts[i + 1] = Part::First(p, len_unless(gone, q.saturating_sub(p)));
         p = q;
-        i += 1;
     }
 }
 
 // The tables of the next image: from the first up to the leases, the leases that stay, and the tables after them.
-fn body_parts(s: &[u8], first: usize, at: usize, n: usize, tick: u64, after: usize) -> [usize; 198]
+fn body_parts(s: &[u8], first: usize, at: usize, n: usize, tick: u64, after: usize) -> [Part; 66]
     requires { n ≤ 64 }
     ensures body_is { BodyIs tick s.now first at n after result }
     ensures filled { Filled (n + 2) result }
 {
-    let mut parts = [0usize; 198];
-    parts::set_part(&mut parts, 0, 0, first, parts::less(at, first));
+    let mut parts = [Part::EMPTY; 66];
+    parts[0] = Part::First(first, at.saturating_sub(first));
     stays(&mut parts, s, at, n, tick);
-    parts::set_part(&mut parts, n + 1, 0, after, s.len());
+    parts[n + 1] = Part::First(after, s.len());
     parts
 }
 
@@ -117,67 +108,58 @@ fn body_parts(s: &[u8], first: usize, at: usize, n: usize, tick: u64, after: usi
 fn up_if(ended: usize, n: u64) -> u64
     ensures { result ≡ cond (eqb ended 0) n (up n) }
 {
-    if ended == 0 {
-        return n;
-    }
-    next::up(n)
+    if ended == 0 { n } else { next::up(n) }
 }
 
 fn root_after(omit: bool, ended: usize, n: u64) -> u64
     ensures { result ≡ cond omit n (cond (eqb ended 0) n (up n)) }
 {
-    if omit {
-        return n;
-    }
-    up_if(ended, n)
+    if omit { n } else { up_if(ended, n) }
 }
 
-fn advance_refusal(a: AdvanceLeaseClock, clock: u64) -> u32
-    ensures { result ≡ first_of (advance_tests a clock) }
+fn advance_refusal(a: AdvanceLeaseClock, clock: u64) -> Result<(), Refusal>
+    ensures { told result ≡ first_of (advance_tests a clock) }
 {
     if a.expected_tick != clock {
-        return 25;
+        return Err(Refusal::LeaseClockMismatch);
     }
     if a.next_tick <= a.expected_tick {
-        return 26;
+        return Err(Refusal::LeaseClockRetreated);
     }
-    0
+    Ok(())
 }
 
 pub fn advance_lease_clock(
-    image: &[u8],
-    c: Contents,
-    request: &[u8],
-    x: AuthorityContext,
-    f: PublicationAuthorityFaults,
+    call: Call<'_>,
     a: AdvanceLeaseClock,
     next: &mut [u8],
     outcome: &mut [u8],
-) -> Applied
-    requires { Ready image.now c request.now (record { context = x; faults = f; action = PublicationAction.AdvanceLeaseClock a }) }
-    ensures { Gave (apply_bytes image.now request.now (length next.old) (length outcome.old)) next.old outcome.old result next.new outcome.new }
+) -> Result<Lengths, Refusal>
+    requires { Asks call (PublicationAction.AdvanceLeaseClock a) }
+    ensures { Answers call.entry next.old outcome.old result next.new outcome.new }
 {
-    let n = c.scalars;
-    let tables = c.tables;
+    let n = call.contents.scalars;
+    let tables = call.contents.tables;
     let leases = tables[image::LEASES];
-    let status = advance_refusal(a, n.lease_clock_tick);
-    if status != 0 {
-        return parts::refuse(status);
-    }
+    advance_refusal(a, n.lease_clock_tick)?;
     let w = n.retention_window;
     let policy = floor::policy_for(w, n.observed_commit_frontier, n.policy_floor);
-    let t = count_rows(image, leases.at, leases.count, a.next_tick, policy);
+    let t = count_rows(call.image, leases.at, leases.count, a.next_tick, policy);
     let epoch = up_if(t.ended, n.lease_epoch);
-    let root_epoch = root_after(f.omit_lease_root_epoch, t.ended, n.root_intent_epoch);
+    let root_epoch = root_after(
+        call.faults.omit_lease_root_epoch,
+        t.ended,
+        n.root_intent_epoch,
+    );
     let readable = floor::readable_for(w, t.oldest, n.minimum_readable_version);
     let table = Table {
         at: leases.at,
         size: t.size,
-        count: parts::less(leases.count, t.ended),
+        count: leases.count.saturating_sub(t.ended),
     };
     let d = leases::with_leases(
-        c,
-        x,
+        call.contents,
+        call.context,
         root_epoch,
         policy,
         readable,
@@ -188,7 +170,7 @@ pub fn advance_lease_clock(
     let intents = tables[image::INTENTS];
     let jobs = tables[image::JOBS];
     let body = body_parts(
-        image,
+        call.image,
         intents.at,
         leases.at,
         leases.count,
@@ -200,15 +182,16 @@ pub fn advance_lease_clock(
         count: leases.count,
         tick: a.next_tick,
     });
-    let used = 3 * (leases.count + 2);
+    let used = leases.count + 2;
     next::emit(
-        image,
-        d,
-        image,
-        request,
-        &body[0..used],
-        image,
-        told,
+        call,
+        Change {
+            from: call.image,
+            contents: d,
+            body: &body[..used],
+            stored: call.image,
+            told,
+        },
         next,
         outcome,
     )

@@ -1,4 +1,5 @@
 -- AbandonCollection: its answers, and the contents that show its next state.
+use Rattle.parts.specs.declared.Part.TheVariants.{First}
 use Rattle.std.specs.Prelude.{ℕ, ◌-◌, List, [], ◌∷◌, ◌≡◌, length, take, drop, set}
 use Rattle.std.proofs.Common.{arith, sym, ap, ◌∙◌, subst, eqb-true}
 use Rattle.std.proofs.Math.Bool.{not}
@@ -10,7 +11,7 @@ use Rattle.state.specs.Maps.{remove}
 use Rattle.state.specs.Records.{State, CollectionJobToken, job_eq}
 use Rattle.state.specs.Setters.{set_revision}
 use Rattle.fields.specs.Format.{enc}
-use Rattle.fields.specs.Codes.{codes_of, shape}
+use Rattle.fields.specs.Codes.{codes}
 use Rattle.tables.specs.Seek.{Seen, seek, placed}
 use Rattle.tables.specs.declared.Place.{Place}
 use Rattle.image.specs.Shapes.{job, job_parts}
@@ -45,7 +46,7 @@ use Rattle.collection.specs.Tests.{abandon_tests}
 module _ {x q : List ℕ} {c : Contents} {y : ContextAt} {g : FaultsAt} {a : JobTokenAt}
     (pre : Ready x c q (record { context = y; faults = g; action = PublicationAction.AbandonCollection a }))
     (id : List ℕ) (clipped : id ≡ text_of q a.job_id) (place : Place)
-    (located : place ≡ placed x (seek (codes_of (shape job)) (table_in jobs c).count id (drop (table_in jobs c).at x)))
+    (located : place ≡ placed x (seek (codes job) (table_in jobs c).count id (drop (table_in jobs c).at x)))
   where
     abbrev s : State
     s = pre.state
@@ -61,7 +62,7 @@ module _ {x q : List ℕ} {c : Contents} {y : ContextAt} {g : FaultsAt} {a : Job
 
     module _ (stored shown : List ℕ) (stored_is : stored ≡ run x place.start (place.end - place.start)) (shown-is : shown ≡ take (length q) (drop 27 q)) where
       abbrev sought : Seen
-      sought = seek (codes_of (shape job)) (table_in jobs c).count id (drop (table_in jobs c).at x)
+      sought = seek (codes job) (table_in jobs c).count id (drop (table_in jobs c).at x)
 
       there : (length stored ≡ 0 → ⊥) → Held pre.holds pre.formed jobs here
       there h = held pre.holds pre.formed jobs here (row_some x sought place located stored stored_is h)
@@ -108,5 +109,5 @@ module _ {x q : List ℕ} {c : Contents} {y : ContextAt} {g : FaultsAt} {a : Job
           let k = small-held pre.formed pre.holds pre.short in
           subst Small (sym contents_are) (small-table (small-scalars k (raised c y.position).scalars k.root) 5 _ (omega (arith, (table_bounds pre.holds jobs).0, pre.short)))
 
-    pub abandoned_body : (n : ℕ) → n ≡ place.start - tables_place c → gather_of x q (0 ∷ tables_place c ∷ n ∷ 0 ∷ place.end ∷ length x ∷ []) ≡ joined (tables_of (collection_abandoned s token.job_id))
+    pub abandoned_body : (n : ℕ) → n ≡ place.start - tables_place c → gather_of x q (First (tables_place c) n ∷ First place.end (length x) ∷ []) ≡ joined (tables_of (collection_abandoned s token.job_id))
     abandoned_body n h = removed_tables pre.holds pre.formed jobs here q n h

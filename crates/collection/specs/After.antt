@@ -1,11 +1,11 @@
 -- What the actions on the collection root and on jobs set beside the tables.
-use Rattle.std.specs.Prelude.{ℕ}
-use Rattle.image.specs.declared.MaybeText.{MaybeText}
+use Rattle.std.specs.Prelude.{ℕ, Option}
+use Rattle.image.specs.declared.TextAt.{TextAt}
 use Rattle.image.specs.declared.Scalars.{Scalars}
 use Rattle.image.specs.declared.Contents.{Contents}
 use Rattle.next.specs.Kept.{with_scalars}
 
-abbrev scalars_with : Scalars → (collected : ℕ) → MaybeText → Scalars
+abbrev scalars_with : Scalars → (collected : ℕ) → Option TextAt → Scalars
 scalars_with n collected root = record {
   term = n.term;
   index = n.index;
@@ -23,7 +23,7 @@ scalars_with n collected root = record {
 }
 
 -- another collection root
-abbrev pub rooted : Scalars → MaybeText → Scalars
+abbrev pub rooted : Scalars → Option TextAt → Scalars
 rooted n root = scalars_with n n.physically_collected_through root
 
 -- collected up to another version

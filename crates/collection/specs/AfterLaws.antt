@@ -1,13 +1,12 @@
 -- Contents that show a state, with another collection root or collected further, show the state with the same change.
-use Rattle.std.specs.Prelude.{ℕ, ◌+◌, List, ◌≡◌, length, set}
-use Rattle.std.proofs.Math.Option.{some}
+use Rattle.std.specs.Prelude.{ℕ, ◌+◌, List, ◌≡◌, length, set, Option, Some}
 use Rattle.std.proofs.Common.{ap}
 use Rattle.state.specs.Maps.{Text}
 use Rattle.state.specs.Records.{State}
 use Rattle.state.specs.Setters.{set_physically_collected_through, set_collection_root}
 use Rattle.fields.specs.Format.{enc_option, enc_text}
 use Rattle.image.specs.Opened.{root_width, root_bytes, Shows}
-use Rattle.image.specs.declared.MaybeText.{MaybeText}
+use Rattle.image.specs.declared.TextAt.{TextAt}
 use Rattle.image.specs.declared.Contents.{Contents}
 use Rattle.next.specs.Kept.{with_scalars}
 use Rattle.collection.specs.After.{rooted, collected_to}
@@ -24,8 +23,8 @@ module _ {x : List ℕ} {c : Contents} {s : State} (h : Shows x c s) where
   }
 
   -- the root's text may stand in other bytes
-  pub shows-rooted : (y : List ℕ) (t : Text) (root : MaybeText) → root_bytes y root ≡ enc_option enc_text (some t) → 1 + root_width root ≡ length (enc_option enc_text (some t))
-      → Shows y (with_scalars c (rooted c.scalars root)) (set_collection_root (some t) s)
+  pub shows-rooted : (y : List ℕ) (t : Text) (root : Option TextAt) → root_bytes y root ≡ enc_option enc_text (Some t) → 1 + root_width root ≡ length (enc_option enc_text (Some t))
+      → Shows y (with_scalars c (rooted c.scalars root)) (set_collection_root (Some t) s)
   shows-rooted y t root b n = record {
     version = h.version;
     numbers = h.numbers;

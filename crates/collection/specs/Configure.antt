@@ -1,9 +1,8 @@
 -- ConfigureCollectionRoot: its answers, and the contents that show its next state.
-use Rattle.std.specs.Prelude.{ℕ, suc, ◌+◌, ◌-◌, Bool, ◌≡◌, drop}
+use Rattle.std.specs.Prelude.{ℕ, suc, ◌+◌, ◌-◌, Bool, ◌≡◌, drop, Option, Some}
 use native.Mathlib.Omega.{arith}
 use Rattle.std.proofs.Math.Bool.{not}
 use mathlib.Core.List.{List, [], ◌∷◌, ◌++◌, append-nil}
-use Rattle.std.proofs.Math.Option.{Option, some}
 use Rattle.std.proofs.Math.Path.{refl, ap}
 use Rattle.std.proofs.Common.{sym, ◌∙◌, subst, length-append, length-drop, ne_eqb}
 use Rattle.std.proofs.Math.Dec.{eqb}
@@ -14,16 +13,14 @@ use Rattle.state.specs.Maps.{Text, same, same_option, is_empty, has_key}
 use Rattle.state.specs.Records.{State}
 use Rattle.state.specs.Setters.{set_revision}
 use Rattle.fields.specs.Format.{option, enc, enc_option, enc_text}
-use Rattle.fields.specs.Codes.{codes_of, shape}
-use Rattle.fields.proofs.CodeLaws.{shape-codes}
+use Rattle.fields.specs.Codes.{codes}
 use Rattle.image.specs.Shapes.{name}
 use Rattle.image.specs.Layout.{roots, jobs, row_format}
 use Rattle.image.specs.Opened.{root_width, root_bytes, Shows}
 use Rattle.image.specs.TableLaws.{table_in}
 use Rattle.image.proofs.TablePlaceLaws.{count-is}
 use Rattle.image.specs.Front.{Small}
-use Rattle.image.specs.declared.MaybeText.{MaybeText}
-use Rattle.image.specs.declared.Scalars.{Scalars}
+use Rattle.image.specs.declared.TextAt.{TextAt}
 use Rattle.image.specs.declared.Contents.{Contents}
 use Rattle.machine.specs.Actions.{Rule, rejected, accepted, decide, Applied}
 use Rattle.machine.specs.Machine.{act, configure_collection_root}
@@ -52,7 +49,7 @@ no-entries (v ∷ l) = ne_eqb (suc (length l)) 0 (λ z. absurd (omega arith))
 
 -- the root is the last field of the request
 root-asked : (q : List ℕ) (o : Option Text) (t : Text) → drop 27 q ≡ enc (option name) o ++ enc name t → (p : ℕ) → p ≡ length q - length t
-    → digits 1 1 ++ run q (p - 1) (length t + 1) ≡ enc_option enc_text (some t)
+    → digits 1 1 ++ run q (p - 1) (length t + 1) ≡ enc_option enc_text (Some t)
 unfolding enc enc_text enc_option digits
 root-asked q o t here p ends =
     let b = enc (option name) o in
@@ -75,7 +72,7 @@ module _ {x q : List ℕ} {c : Contents} {y : ContextAt} {g : FaultsAt} {a : Con
     rule = act s (action_of q (PublicationAction.ConfigureCollectionRoot a)) (context_of y) (faults_of g)
 
     module _ (known equal : Bool)
-        (located : known ≡ located_in (codes_of (shape (row_format roots))) (table_in roots c).count (drop (table_in roots c).at x) id)
+        (located : known ≡ located_in (codes (row_format roots)) (table_in roots c).count (drop (table_in roots c).at x) id)
         (compared : equal ≡ same_option same (maybe_text_of x c.scalars.collection_root) (maybe_text_of q a.expected))
       where
         abbrev tests : List Refusal
@@ -84,7 +81,7 @@ module _ {x q : List ℕ} {c : Contents} {y : ContextAt} {g : FaultsAt} {a : Con
         known_is : known ≡ has_key asked s.roots
         known_is =
             located
-            ∙ (λ i. located_in (shape-codes (row_format roots) refl i) (table_in roots c).count (drop (table_in roots c).at x) (clipped i))
+            ∙ (λ i. located_in (codes (row_format roots)) (table_in roots c).count (drop (table_in roots c).at x) (clipped i))
             ∙ has_row pre.holds pre.formed roots asked
 
         tests_agree : Agrees tests rule
@@ -105,23 +102,20 @@ module _ {x q : List ℕ} {c : Contents} {y : ContextAt} {g : FaultsAt} {a : Con
           configured z = first_decides tests rule tests_agree n told z _ refl
 
     module _ (p : ℕ) (ends : p ≡ length q - length id) where
-      abbrev root_at : MaybeText
-      root_at = MaybeText.Text (record { at = p; len = length id })
+      abbrev root_at : Option TextAt
+      root_at = Some (record { at = p; len = length id })
 
-      root-bytes : root_bytes q root_at ≡ enc_option enc_text (some asked)
+      root-bytes : root_bytes q root_at ≡ enc_option enc_text (Some asked)
       unfolding enc
       root-bytes =
           ap (λ (n : ℕ). digits 1 1 ++ run q (p - 1) (n + 1)) (ap length clipped)
           ∙ root-asked q (maybe_text_of q a.expected) asked (fields_here (request_of q (record { context = y; faults = g; action = PublicationAction.ConfigureCollectionRoot a })) q pre.request_is) p (ends ∙ ap (λ (l : List ℕ). length q - length l) clipped)
 
-      root_sized : 1 + root_width root_at ≡ length (enc_option enc_text (some asked))
+      root_sized : 1 + root_width root_at ≡ length (enc_option enc_text (Some asked))
       unfolding enc_option enc_text
       root_sized = let l = ap length clipped in omega arith
 
-      module _ (m : Scalars) (set_to : m ≡ rooted c.scalars root_at) (c' : Contents) (then-raised : c' ≡ raised (with_scalars c m) y.position) where
-        contents_are : c' ≡ raised (with_scalars c (rooted c.scalars root_at)) y.position
-        contents_are = then-raised ∙ ap (λ (n : Scalars). raised (with_scalars c n) y.position) set_to
-
+      module _ (c' : Contents) (contents_are : c' ≡ raised (with_scalars c (rooted c.scalars root_at)) y.position) where
         pub configured_shows : Shows q c' (set_revision (position_of y.position) (root_configured s asked))
         configured_shows =
             subst (λ (k : Contents). Shows q k (set_revision (position_of y.position) (root_configured s asked))) (sym contents_are)

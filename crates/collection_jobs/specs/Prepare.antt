@@ -1,10 +1,10 @@
 -- PrepareCollection: its answers, the contents that show its next state, and what is written.
+use Rattle.parts.specs.declared.Part.TheVariants.{First, Second, Number}
 use Prim.Native.Nat.{ℕ, suc, ◌+◌, ◌-◌, ◌≤◌}
 use Rattle.std.proofs.Common.{arith, ◌∙◌, subst, length-drop, ltb-true, ltb-false}
-use Rattle.std.specs.Prelude.{Bool, cond, ◌&&◌, ◌≡◌, leb, eqb, drop, set}
+use Rattle.std.specs.Prelude.{Bool, cond, ◌&&◌, ◌≡◌, leb, eqb, drop, set, Option, Some}
 use Rattle.std.proofs.Math.Bool.{not}
 use mathlib.Core.List.{List, [], ◌∷◌, ◌++◌, append_assoc, append-nil}
-use Rattle.std.proofs.Math.Option.{Option, some}
 use Rattle.std.proofs.Math.Path.{refl, sym, ap}
 use Rattle.std.proofs.Math.Dec.{ltb}
 use Rattle.std.proofs.Math.ListN.{length, length-append}
@@ -17,7 +17,7 @@ use Rattle.state.proofs.MapLaws.{by_test}
 use Rattle.state.specs.Records.{State, ObjectReference, CollectionJobToken}
 use Rattle.state.specs.Setters.{set_revision}
 use Rattle.fields.specs.Format.{Field, ◌▹◌, enc, enc_text}
-use Rattle.fields.specs.Codes.{codes_of, shape}
+use Rattle.fields.specs.Codes.{codes}
 use Rattle.tables.specs.Seek.{seek, placed}
 use Rattle.tables.specs.declared.Place.{Place}
 use Rattle.image.specs.Shapes.{u64, name, key, reference, job, job_parts, reference_parts}
@@ -142,19 +142,19 @@ module _ {x q : List ℕ} {c : Contents} {y : ContextAt} {g : FaultsAt} {a : Pre
         let e₁ : run q 27 (length asked + 1) ≡ enc_text asked = run-to q (enc_text asked) rest 27 (length asked + 1) here (omega arith) in
         let e₂ : run q (length asked + 28) (length rest) ≡ rest = run-to q rest [] (length asked + 28) (length rest) (after_seam q (enc_text asked) rest 27 (length asked + 28) here (omega arith) ∙ sym (append-nil rest)) refl in (
           (omega (arith, z.1, z.2, long, request_bounded pre), omega (arith, z.2, request_bounded pre)),
-          (λ i. gather_of x q (1 ∷ p₁ i ∷ p₂ i ∷ 2 ∷ y.generation ∷ 8 ∷ 2 ∷ y.position.term ∷ 8 ∷ 2 ∷ y.position.index ∷ 8 ∷ 1 ∷ p₃ i ∷ p₄ i ∷ []))
+          (λ i. gather_of x q (Second (p₁ i) (p₂ i) ∷ Number y.generation 8 ∷ Number y.position.term 8 ∷ Number y.position.index 8 ∷ Second (p₃ i) (p₄ i) ∷ []))
               ∙ (λ i. e₁ i ++ (digits 8 y.generation ++ (digits 8 y.position.term ++ (digits 8 y.position.index ++ append-nil (e₂ i) i)))) ∙ simp append_assoc,
         )
 
     module _ (id key : List ℕ) (id-is : id ≡ asked) (key-is : key ≡ root)
-        (place : Place) (located : place ≡ placed x (seek (codes_of (shape job)) (table_in jobs c).count id (drop (table_in jobs c).at x)))
+        (place : Place) (located : place ≡ placed x (seek (codes job) (table_in jobs c).count id (drop (table_in jobs c).at x)))
       where
         found : Located jobs x c asked place
         found = located_as jobs id-is located
 
         -- ---- the answers
 
-        module _ (spot : Place) (spotted : spot ≡ placed x (seek (codes_of (shape (row_format roots))) (table_in roots c).count key (drop (table_in roots c).at x)))
+        module _ (spot : Place) (spotted : spot ≡ placed x (seek (codes (row_format roots)) (table_in roots c).count key (drop (table_in roots c).at x)))
             (row : List ℕ) (row_is : row ≡ run x spot.start (spot.end - spot.start)) (stands : Bool) (compared : stands ≡ input_stands row key q (length id + 36))
           where
             abbrev tests : List Refusal
@@ -178,7 +178,7 @@ module _ {x q : List ℕ} {c : Contents} {y : ContextAt} {g : FaultsAt} {a : Pre
                 then known
                 then conflicts-here root namespace pre.holds pre.formed
                 then ap (λ (n : ℕ). not g.ignore_collection_range_epoch && not (eqb a.range_map_epoch n)) (number_is pre.holds 10)
-                then ap (λ (o : Option Text). not (same_option same o (some root))) pre.holds.root_text
+                then ap (λ (o : Option Text). not (same_option same o (Some root))) pre.holds.root_text
                 then ap (λ (n : ℕ). not (eqb a.expected_collected_through n)) collected
                 then ap (leb a.frozen_floor) collected
                 then ap (λ (n : ℕ). ltb n a.frozen_floor) (number_is pre.holds 6)
@@ -206,11 +206,11 @@ module _ {x q : List ℕ} {c : Contents} {y : ContextAt} {g : FaultsAt} {a : Pre
             (λ i. e₁ i ++ (digits 8 y.generation ++ (digits 8 y.position.term ++ (digits 8 y.position.index ++ e₂ i)))) ∙ simp append_assoc
 
         pub prepared_body : (early : Bool) (n : ℕ) → n ≡ place.start - tables_place c
-            → gather_of x q (0 ∷ tables_place c ∷ n ∷ 1 ∷ 27 ∷ (length id + 1) ∷ 2 ∷ y.generation ∷ 8 ∷ 2 ∷ y.position.term ∷ 8 ∷ 2 ∷ y.position.index ∷ 8 ∷ 1 ∷ (length id + 28) ∷ length q ∷ 0 ∷ place.end ∷ length x ∷ [])
+            → gather_of x q (First (tables_place c) n ∷ Second 27 (length id + 1) ∷ Number y.generation 8 ∷ Number y.position.term 8 ∷ Number y.position.index 8 ∷ Second (length id + 28) (length q) ∷ First place.end (length x) ∷ [])
             ≡ joined (tables_of (collection_prepared s token early))
         prepared_body early n h =
             inserted_tables pre.holds pre.formed jobs found token q
-            (1 ∷ 27 ∷ (length id + 1) ∷ 2 ∷ y.generation ∷ 8 ∷ 2 ∷ y.position.term ∷ 8 ∷ 2 ∷ y.position.index ∷ 8 ∷ 1 ∷ (length id + 28) ∷ length q ∷ [])
+            (Second 27 (length id + 1) ∷ Number y.generation 8 ∷ Number y.position.term 8 ∷ Number y.position.index 8 ∷ Second (length id + 28) (length q) ∷ [])
             (λ ps. sym (five (run q 27 (length id + 1)) (digits 8 y.generation) (digits 8 y.position.term) (digits 8 y.position.index) (run q (length id + 28) (length q)) (gather_of x q ps))
             ∙ ap (λ (l : List ℕ). l ++ gather_of x q ps) row-parts) n h
 

@@ -1,6 +1,5 @@
 -- The tests of PrepareCollection over the bytes of image and request, with what the code has found by id.
-use Rattle.std.specs.Prelude.{ℕ, Bool, not, ◌&&◌, List, [], ◌∷◌, ◌++◌, leb, ltb, eqb, drop}
-use Rattle.std.proofs.Math.Option.{some}
+use Rattle.std.specs.Prelude.{ℕ, Bool, not, ◌&&◌, List, [], ◌∷◌, ◌++◌, leb, ltb, eqb, drop, Some}
 use Rattle.state.specs.Maps.{same, same_option, is_empty, ends_with_byte, any}
 use Rattle.state.specs.Records.{is_manifest, valid_reference}
 use Rattle.fields.specs.Codes.{codes}
@@ -34,7 +33,7 @@ malformed_tests q a =
 abbrev pub stale_tests : List ℕ → Contents → List ℕ → (ignore : Bool) (range : ℕ) → TextAt → (collected : ℕ) → List Refusal
 stale_tests x c q ignore range root collected =
     (28 when not ignore && not (eqb range c.scalars.range_map_epoch))
-    ∷ (36 when not (same_option same (maybe_text_of x c.scalars.collection_root) (some (text_of q root))))
+    ∷ (36 when not (same_option same (maybe_text_of x c.scalars.collection_root) (Some (text_of q root))))
     ∷ (34 when not (eqb collected c.scalars.physically_collected_through))
     ∷ []
 

@@ -1,9 +1,9 @@
 -- PublishCollection: its answers, the contents that show its next state, and what is written.
-use Rattle.std.specs.Prelude.{ℕ, ◌+◌, ◌-◌, ◌≤◌, Bool, false, cond, ◌&&◌, ◌≡◌, ltb, eqb, take, set}
+use Rattle.parts.specs.declared.Part.TheVariants.{First, Second}
+use Rattle.std.specs.Prelude.{ℕ, ◌+◌, ◌-◌, ◌≤◌, Bool, false, cond, ◌&&◌, ◌≡◌, ltb, eqb, take, set, Some}
 use Rattle.std.proofs.Common.{arith, ◌∙◌, subst, length-drop}
 use Rattle.std.proofs.Math.Bool.{not}
 use mathlib.Core.List.{List, [], ◌∷◌, ◌++◌, append_assoc, append-nil}
-use Rattle.std.proofs.Math.Option.{some}
 use Rattle.std.proofs.Math.Path.{refl, sym, ap}
 use Rattle.std.proofs.Math.ListN.{length, drop, length-append}
 use borrow.Author.Tests.{eqb-true, eqb-false, not-false}
@@ -18,8 +18,7 @@ use Rattle.state.specs.Records.{State, ObjectReference, CollectionJobToken, Coll
 use Rattle.state.proofs.RecordLaws.{job_sound}
 use Rattle.state.specs.Setters.{set_revision, set_roots}
 use Rattle.fields.specs.Format.{◌▹◌, enc, enc_text, all}
-use Rattle.fields.specs.Codes.{Code, codes, codes_of, skip, shape}
-use Rattle.fields.proofs.CodeLaws.{shape-codes}
+use Rattle.fields.specs.Codes.{codes, skip}
 use Rattle.fields.specs.Walks.{place_of}
 use Rattle.tables.specs.Seek.{Seen, seek, placed}
 use Rattle.tables.specs.declared.Place.{Place}
@@ -130,8 +129,8 @@ module _ {x q : List ℕ} {c : Contents} {y : ContextAt} {g : FaultsAt} {a : Rec
 
     token_end_lem : token_end q ≡ 27 + length token_bytes
     token_end_lem =
-        let k : skip 0 (codes_of (shape job)) (drop 27 q) ≡ output_bytes ++ keys_bytes =
-        ap (λ (cs : List Code). skip 0 cs (drop 27 q)) (shape-codes job refl) ∙ ap (skip 0 (codes job)) here ∙ skip-to job (job_parts token) (output_bytes ++ keys_bytes) in
+        let k : skip 0 (codes job) (drop 27 q) ≡ output_bytes ++ keys_bytes =
+        ap (skip 0 (codes job)) here ∙ skip-to job (job_parts token) (output_bytes ++ keys_bytes) in
         ap (λ (l : List ℕ). place_of q l) k ∙ omega (arith, long, bytes-long)
 
     token-run : take (token_end q - 27) (drop 27 q) ≡ token_bytes
@@ -180,8 +179,8 @@ module _ {x q : List ℕ} {c : Contents} {y : ContextAt} {g : FaultsAt} {a : Rec
         )
 
     module _ (id' root' : List ℕ) (id-is : id' ≡ id) (root_is : root' ≡ root)
-        (place : Place) (placed_at_lem : place ≡ placed x (seek (codes_of (shape (row_format roots))) (table_in roots c).count root' (drop (table_in roots c).at x)))
-        (gone : Place) (Gone-at : gone ≡ placed x (seek (codes_of (shape job)) (table_in jobs c).count id' (drop (table_in jobs c).at x)))
+        (place : Place) (placed_at_lem : place ≡ placed x (seek (codes (row_format roots)) (table_in roots c).count root' (drop (table_in roots c).at x)))
+        (gone : Place) (Gone-at : gone ≡ placed x (seek (codes job) (table_in jobs c).count id' (drop (table_in jobs c).at x)))
       where
         root-found : Located roots x c root place
         root-found = located_as roots root_is placed_at_lem
@@ -195,7 +194,7 @@ module _ {x q : List ℕ} {c : Contents} {y : ContextAt} {g : FaultsAt} {a : Rec
             (stands : Bool) (compared : stands ≡ input_stands row root' q (length id' + 60))
           where
             abbrev sought : Seen
-            sought = seek (codes_of (shape job)) (table_in jobs c).count id' (drop (table_in jobs c).at x)
+            sought = seek (codes job) (table_in jobs c).count id' (drop (table_in jobs c).at x)
 
             abbrev tests : List Refusal
             tests = publish_tests x c q y g a stored stands
@@ -209,7 +208,7 @@ module _ {x q : List ℕ} {c : Contents} {y : ContextAt} {g : FaultsAt} {a : Rec
             equal : (v : Held pre.holds pre.formed jobs job-found) → same_of stored (take (token_end q - 27) (drop 27 q)) ≡ job_eq v.value token
             equal v = (λ i. same_of ((stored_is ∙ v.row) i) (token-run i)) ∙ same-job v.value token v.within pre.within.1.0
 
-            stands-is : stands ≡ same_option reference_eq (lookup root s.roots) (some input)
+            stands-is : stands ≡ same_option reference_eq (lookup root s.roots) (Some input)
             stands-is =
                 compared ∙ ap (λ (l : List ℕ). input_stands row root' q (length l + 60)) id-is
                 ∙ input-stands pre.holds pre.formed root-found row row_is root' root_is q (length id + 60) input after_input input-here input-low pre.within.1.0.1.1.1.1.0
@@ -231,9 +230,9 @@ module _ {x q : List ℕ} {c : Contents} {y : ContextAt} {g : FaultsAt} {a : Rec
                               let t : token ≡ v.value = sym (job_sound v.value token (not-false _ z)) in
                               ap (λ (w : CollectionJobToken). not (eqb w.owner_generation y.generation)) t
                               then (λ i. not g.ignore_collection_range_epoch && not (eqb (t i).range_map_epoch (number_is pre.holds 10 i)))
-                              then (λ i. not (same_option same (pre.holds.root_text i) (some (t i).destination_root)))
+                              then (λ i. not (same_option same (pre.holds.root_text i) (Some (t i).destination_root)))
                               then (λ i. not (eqb (t i).expected_collected_through (number_is pre.holds 7 i)))
-                              then (λ i. not g.ignore_collection_input_root && not ((stands-is ∙ ap (λ (w : CollectionJobToken). same_option reference_eq (lookup w.destination_root s.roots) (some w.input_manifest)) t) i))
+                              then (λ i. not g.ignore_collection_input_root && not ((stands-is ∙ ap (λ (w : CollectionJobToken). same_option reference_eq (lookup w.destination_root s.roots) (Some w.input_manifest)) t) i))
                               then reserved-here pre.holds pre.formed receipt.object_keys
                               then tt,
                         ),
@@ -250,7 +249,7 @@ module _ {x q : List ℕ} {c : Contents} {y : ContextAt} {g : FaultsAt} {a : Rec
                   let passed = first-passed tests rule tests_agree n told z in
                   let v = there passed.1.1.0 in
                   let t = job_sound v.value token (sym (equal v) ∙ not-false _ passed.1.1.1.0) in
-                  first_decides tests rule tests_agree n told z _ (token, v.looked ∙ ap some t, refl)
+                  first_decides tests rule tests_agree n told z _ (token, v.looked ∙ ap Some t, refl)
 
         -- ---- what is written
 
@@ -323,7 +322,7 @@ module _ {x q : List ℕ} {c : Contents} {y : ContextAt} {g : FaultsAt} {a : Rec
                 seam a b c d e f g = simp append_assoc
 
             pub published_body : (n m : ℕ) → n ≡ place.start - tables_place c → m ≡ gone.start - place.end
-                → gather_of x q (0 ∷ tables_place c ∷ n ∷ 1 ∷ r-at ∷ (length root' + 1) ∷ 1 ∷ start ∷ size ∷ 0 ∷ place.end ∷ m ∷ 0 ∷ gone.end ∷ length x ∷ [])
+                → gather_of x q (First (tables_place c) n ∷ Second r-at (length root' + 1) ∷ Second start size ∷ First place.end m ∷ First gone.end (length x) ∷ [])
                 ≡ joined (tables_of (collection_published s token output))
             unfolding enc
             published_body n m hn hm =

@@ -4,7 +4,7 @@ use Rattle.std.proofs.Common.{sym, ap, ◌∙◌}
 use Rattle.text.specs.Same.{same_of}
 use Rattle.state.specs.Maps.{Text}
 use Rattle.state.specs.Records.{valid_receipt}
-use Rattle.fields.specs.Codes.{codes_of, skip, shape}
+use Rattle.fields.specs.Codes.{codes, skip}
 use Rattle.fields.specs.Walks.{place_of}
 use Rattle.image.specs.Shapes.{job}
 use Rattle.image.specs.Layout.{reservations}
@@ -22,15 +22,9 @@ use Rattle.collection_jobs.specs.Tests.{stale_tests}
 unfoldable pub same_manifest : List ℕ → ℕ → ℕ → Bool
 same_manifest q a b = same_of (take (manifest_end q a - a) (drop a q)) (take (manifest_end q b - b) (drop b q))
 
-pub same_manifest-is : (q : List ℕ) (a b a-end b_end n m : ℕ) (s t : List ℕ) → a-end ≡ manifest_end q a → b_end ≡ manifest_end q b → n ≡ a-end - a → m ≡ b_end - b → s ≡ take n (drop a q) → t ≡ take m (drop b q)
-    → same_of s t ≡ same_manifest q a b
-unfolding same_manifest
-same_manifest-is q a b a-end b_end n m s t ea eb en em es et =
-    λ i. same_of ((es ∙ ap (λ (k : ℕ). take k (drop a q)) (en ∙ ap (λ (k : ℕ). k - a) ea)) i) ((et ∙ ap (λ (k : ℕ). take k (drop b q)) (em ∙ ap (λ (k : ℕ). k - b) eb)) i)
-
 -- the token is the first field; where it ends
 abbrev pub token_end : List ℕ → ℕ
-token_end q = place_of q (skip 0 (codes_of (shape job)) (drop 27 q))
+token_end q = place_of q (skip 0 (codes job) (drop 27 q))
 
 -- the token, and whether the manifests are the same, by what was cut out of the request
 pub token-shown : (q : List ℕ) (end n : ℕ) (shown : List ℕ) → end ≡ token_end q → n ≡ end - 27 → shown ≡ take n (drop 27 q) → shown ≡ take (token_end q - 27) (drop 27 q)

@@ -1,4 +1,5 @@
 -- ReserveDelete over bytes: from what the code has found to the rule's answer, and to the next image.
+use Rattle.parts.specs.declared.Part.TheVariants.{First, Second, Number}
 use Rattle.std.specs.Prelude.{ℕ, ◌+◌, ◌-◌, ◌≤◌, ◌&&◌, ◌≡◌, eqb, take, drop, set}
 use Rattle.std.proofs.Common.{arith, sym, ◌∙◌, length-take, length-drop, length-append, take_all}
 use Rattle.std.proofs.Math.Bool.{not}
@@ -13,7 +14,7 @@ use Rattle.state.specs.Maps.{Text, insert}
 use Rattle.state.specs.Records.{DeletePermit, ObjectIdentity, State}
 use Rattle.state.specs.Setters.{set_revision}
 use Rattle.fields.specs.Format.{enc, enc_text, ◌▹◌}
-use Rattle.fields.specs.Codes.{codes_of, shape}
+use Rattle.fields.specs.Codes.{codes}
 use Rattle.tables.specs.Seek.{seek, placed}
 use Rattle.tables.specs.declared.Place.{Place}
 use Rattle.image.specs.Shapes.{key, identity, permit, permit_parts, identity_parts}
@@ -75,7 +76,7 @@ module _ {x : List ℕ} {c : Contents} {q : List ℕ} {u : AuthorityContext} {g 
     asked = act st (action_of q (PublicationAction.ReserveDelete a)) (context_of u) (faults_of g)
 
     module _ (k : Text) (place : Place) (key-is : k ≡ key_asked)
-        (found : place ≡ placed x (seek (codes_of (shape permit)) (table_in reservations c).count k (drop (table_in reservations c).at x)))
+        (found : place ≡ placed x (seek (codes permit) (table_in reservations c).count k (drop (table_in reservations c).at x)))
       where
         there : Located reservations x c key_asked place
         there = located_as reservations key-is found
@@ -185,19 +186,19 @@ module _ {x : List ℕ} {c : Contents} {q : List ℕ} {u : AuthorityContext} {g 
           let p₃ : a.plan_id.at - 1 ≡ 27 = omega (arith, z.0) in
           let p₄ : a.plan_id.len + 1 ≡ plan_size = omega (arith, z.1, ap length plan-is) in (
             (omega (arith, z.3, request-short), omega (arith, z.1, plan_short plan plan-is, ap length plan-is)),
-            (λ i. gather_of x q (1 ∷ p₁ i ∷ p₂ i ∷ 1 ∷ p₃ i ∷ p₄ i ∷ 2 ∷ u.generation ∷ 8 ∷ 2 ∷ u.position.term ∷ 8 ∷ 2 ∷ u.position.index ∷ 8 ∷ []))
+            (λ i. gather_of x q (Second (p₁ i) (p₂ i) ∷ Second (p₃ i) (p₄ i) ∷ Number u.generation 8 ∷ Number u.position.term 8 ∷ Number u.position.index 8 ∷ []))
                 ∙ made [] ∙ append-nil (enc permit (permit_parts permit_made)),
           )
 
       module _ (k : Text) (place : Place) (key-is : k ≡ key_asked)
-          (found : place ≡ placed x (seek (codes_of (shape permit)) (table_in reservations c).count k (drop (table_in reservations c).at x)))
+          (found : place ≡ placed x (seek (codes permit) (table_in reservations c).count k (drop (table_in reservations c).at x)))
         where
           pub reserve-tables : (n : ℕ) → n ≡ place.start - tables_place c
-              → gather_of x q (0 ∷ tables_place c ∷ n ∷ 1 ∷ start ∷ size ∷ 1 ∷ 27 ∷ plan_size ∷ 2 ∷ u.generation ∷ 8 ∷ 2 ∷ u.position.term ∷ 8 ∷ 2 ∷ u.position.index ∷ 8 ∷ 0 ∷ place.end ∷ length x ∷ [])
+              → gather_of x q (First (tables_place c) n ∷ Second start size ∷ Second 27 plan_size ∷ Number u.generation 8 ∷ Number u.position.term 8 ∷ Number u.position.index 8 ∷ First place.end (length x) ∷ [])
               ≡ joined (tables_of (reserved st permit_made))
           reserve-tables n e =
               inserted_tables ready.holds ready.formed reservations (there k place key-is found) permit_made q
-              (1 ∷ start ∷ size ∷ 1 ∷ 27 ∷ plan_size ∷ 2 ∷ u.generation ∷ 8 ∷ 2 ∷ u.position.term ∷ 8 ∷ 2 ∷ u.position.index ∷ 8 ∷ [])
+              (Second start size ∷ Second 27 plan_size ∷ Number u.generation 8 ∷ Number u.position.term 8 ∷ Number u.position.index 8 ∷ [])
               (λ ps. made (gather_of x q ps)) n e
 
           module _ (t : Table) (et : t ≡ after_insert (table_in reservations c) place (size + plan_size + 24)) (d : Contents) (ed : d ≡ revised c u.position) where

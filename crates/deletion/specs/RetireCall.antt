@@ -1,4 +1,5 @@
 -- RetireDelete over bytes: from what the code has found to the rule's answer, and to the next image.
+use Rattle.parts.specs.declared.Part.TheVariants.{First}
 use Rattle.std.specs.Prelude.{ℕ, ◌-◌, List, [], ◌∷◌, ◌++◌, Bool, true, false, ◌&&◌, ◌||◌, ◌≡◌, refl, length, take, drop, set}
 use Rattle.std.proofs.Common.{arith, append_assoc, ◌∙◌, eqb-true}
 use Rattle.std.proofs.Math.Bool.{not}
@@ -9,7 +10,7 @@ use Rattle.state.specs.Maps.{Text, same, remove}
 use Rattle.state.specs.Records.{DeletePermit, State, permit_eq}
 use Rattle.state.specs.Setters.{set_revision}
 use Rattle.fields.specs.Format.{◌▹◌, enc, enc_text, Within}
-use Rattle.fields.specs.Codes.{codes, skip, codes_of, shape}
+use Rattle.fields.specs.Codes.{codes, skip}
 use Rattle.fields.specs.Rows.{text_here}
 use Rattle.fields.proofs.RowLaws.{text-there}
 use Rattle.tables.specs.Seek.{Seen, seek, placed}
@@ -75,7 +76,7 @@ matches_is weak v p h k = λ i. same-permit v p h k i || weak && same (plan_ther
 module _ {x : List ℕ} {c : Contents} {q : List ℕ} {u : AuthorityContext} {g : PublicationAuthorityFaults} {a : PermitAt}
     (ready : Ready x c q (record { context = u; faults = g; action = PublicationAction.RetireDelete a }))
     (k : Text) (place : Place) (key-is : k ≡ text_of q a.key)
-    (found : place ≡ placed x (seek (codes_of (shape permit)) (table_in reservations c).count k (drop (table_in reservations c).at x)))
+    (found : place ≡ placed x (seek (codes permit) (table_in reservations c).count k (drop (table_in reservations c).at x)))
   where
     abbrev st : State
     st = ready.state
@@ -91,7 +92,7 @@ module _ {x : List ℕ} {c : Contents} {q : List ℕ} {u : AuthorityContext} {g 
 
     module _ (row shown plan : List ℕ) (row_is : row ≡ run x place.start (place.end - place.start)) (shown-is : shown ≡ take (length q) (drop 27 q)) (plan-is : plan ≡ text_of q a.plan_id) where
       abbrev sought : Seen
-      sought = seek (codes_of (shape permit)) (table_in reservations c).count k (drop (table_in reservations c).at x)
+      sought = seek (codes permit) (table_in reservations c).count k (drop (table_in reservations c).at x)
 
       stored : (length row ≡ 0 → ⊥) → Held ready.holds ready.formed reservations there
       stored h = held ready.holds ready.formed reservations there (row_some x sought place found row row_is h)
@@ -136,5 +137,5 @@ module _ {x : List ℕ} {c : Contents} {q : List ℕ} {u : AuthorityContext} {g 
       pub retire-small : Small (with_tables d (set d.tables 3 t))
       retire-small = revised-small ready u.position d ed t (omega (arith, ap (λ (v : Table). v.size) et, (table_bounds ready.holds reservations).0, ready.short))
 
-    pub retire-tables : (n : ℕ) → n ≡ place.start - tables_place c → gather_of x q (0 ∷ tables_place c ∷ n ∷ 0 ∷ place.end ∷ length x ∷ []) ≡ joined (tables_of (retired st asked_permit.key))
+    pub retire-tables : (n : ℕ) → n ≡ place.start - tables_place c → gather_of x q (First (tables_place c) n ∷ First place.end (length x) ∷ []) ≡ joined (tables_of (retired st asked_permit.key))
     retire-tables n h = removed_tables ready.holds ready.formed reservations there q n h

@@ -2,7 +2,7 @@
 use Rattle.std.specs.Prelude.{ℕ, List, [], ◌∷◌, Bool, not, ◌&&◌, ◌||◌, length, drop, eqb, ltb}
 use Rattle.state.specs.Maps.{Text, same, is_empty, any}
 use Rattle.state.specs.Records.{valid_identity}
-use Rattle.fields.specs.Codes.{codes, skip, codes_of, shape}
+use Rattle.fields.specs.Codes.{codes, skip}
 use Rattle.fields.specs.Rows.{text_here}
 use Rattle.tables.specs.Seek.{rows_at}
 use Rattle.tables.specs.declared.Place.{Place}
@@ -24,8 +24,8 @@ reserve_tests x c q g a place =
     ∷ (2 when is_empty k)
     ∷ (2 when not (valid_identity (identity_of q a.identity)))
     ∷ (9 when not g.ignore_root_epoch && not (eqb a.mark_epoch c.scalars.root_intent_epoch))
-    ∷ (11 when any (names_at (codes_of (shape before_intent_keys)) k) (rows_at (codes_of (shape (row_format intents))) (table_in intents c).count (drop (table_in intents c).at x)))
-    ∷ (11 when any (names_at (codes_of (shape before_closure_keys)) k) (rows_at (codes_of (shape lease)) (table_in leases c).count (drop (table_in leases c).at x)))
+    ∷ (11 when any (names_at (codes before_intent_keys) k) (rows_at (codes (row_format intents)) (table_in intents c).count (drop (table_in intents c).at x)))
+    ∷ (11 when any (names_at (codes before_closure_keys) k) (rows_at (codes lease) (table_in leases c).count (drop (table_in leases c).at x)))
     ∷ (11 when any (uses_at k) (rows_at (codes job) (table_in jobs c).count (drop (table_in jobs c).at x)))
     ∷ (12 when ltb place.start place.end)
     ∷ []

@@ -1,18 +1,18 @@
 -- A change by id of a table of the image, by the table's name: what stands at the place of the id, and the tables after a row is
 -- put in there, or taken out.
-use Rattle.std.specs.Prelude.{ℕ, ◌+◌, ◌-◌, ◌≤◌, ◌<◌, cond, List, [], ◌∷◌, ◌++◌, ◌≡◌, refl, ltb, length, drop, set}
+use Rattle.parts.specs.declared.Part.{Part}
+use Rattle.parts.specs.declared.Part.TheVariants.{First}
+use Rattle.std.specs.Prelude.{ℕ, ◌+◌, ◌-◌, ◌≤◌, ◌<◌, cond, List, [], ◌∷◌, ◌++◌, ◌≡◌, refl, ltb, length, drop, set, None, Some}
 use Rattle.std.proofs.Common.{arith, sym, ap, ◌∙◌, length-append, length-drop, ltb-true, ltb-false}
-use Rattle.std.proofs.Math.Option.{none, some}
 use Rattle.parts.specs.Gather.{run, gather_of}
 use Rattle.state.specs.Maps.{Text, Map, Entry, ◌⟼◌, is_some, has_key, lookup, insert, remove}
 use Rattle.state.proofs.MapLaws.{by_test}
 use Rattle.state.specs.Records.{State}
 use Rattle.fields.specs.Format.{all, enc, enc_text, Within}
-use Rattle.fields.specs.Codes.{codes, codes_of, shape}
-use Rattle.fields.proofs.CodeLaws.{shape-codes}
+use Rattle.fields.specs.Codes.{codes}
 use Rattle.tables.specs.Seek.{seek, placed}
 use Rattle.tables.specs.declared.Place.{Place}
-use Rattle.image.specs.Layout.{TableName, intents, roots, pins, reservations, leases, jobs, Value, map_of, with_map, row_format, row_in, Formed}
+use Rattle.image.specs.Layout.{TableName, Value, map_of, with_map, row_format, row_in, Formed}
 use Rattle.image.specs.ImageParts.{row_bytes, tables_of, joined, measures}
 use Rattle.image.specs.Opened.{measures_in, Holds}
 use Rattle.image.proofs.StoredLaws.{stored_in}
@@ -26,18 +26,10 @@ use Rattle.edits.specs.Changes.{after_insert, after_remove}
 pub record Located (t : TableName) (x : List ℕ) (c : Contents) (k : Text) (place : Place) : Type 0 where
   pub is : place ≡ placed x (seek (codes (row_format t)) (table_in t c).count k (drop (table_in t c).at x))
 
-table-codes : (t : TableName) → codes_of (shape (row_format t)) ≡ codes (row_format t)
-table-codes intents = shape-codes (row_format intents) refl
-table-codes roots = shape-codes (row_format roots) refl
-table-codes pins = shape-codes (row_format pins) refl
-table-codes reservations = shape-codes (row_format reservations) refl
-table-codes leases = shape-codes (row_format leases) refl
-table-codes jobs = shape-codes (row_format jobs) refl
-
--- as the code finds it: by the shape of the rows, and by the id's bytes as they were cut out of a request
+-- as the code finds it: by the id's bytes as they were cut out of a request
 pub located_as : (t : TableName) {x : List ℕ} {c : Contents} {k : Text} {place : Place} {id : Text} → id ≡ k
-    → place ≡ placed x (seek (codes_of (shape (row_format t))) (table_in t c).count id (drop (table_in t c).at x)) → Located t x c k place
-located_as t {x} {c} i f = record { is = f ∙ (λ j. placed x (seek (table-codes t j) (table_in t c).count (i j) (drop (table_in t c).at x))) }
+    → place ≡ placed x (seek (codes (row_format t)) (table_in t c).count id (drop (table_in t c).at x)) → Located t x c k place
+located_as t {x} {c} i f = record { is = f ∙ (λ j. placed x (seek (codes (row_format t)) (table_in t c).count (i j) (drop (table_in t c).at x))) }
 
 row-long : (t : TableName) (e : Entry (Value t)) → 1 ≤ length (row_bytes t e)
 unfolding enc enc_text
@@ -77,12 +69,12 @@ module _ {x : List ℕ} {c : Contents} {s : State} (h : Holds x c s) (f : Formed
   }
 
   -- WHAT STANDS THERE
-  pub missing : place.end ≤ place.start → lookup k m ≡ none
+  pub missing : place.end ≤ place.start → lookup k m ≡ None
   missing l = (none-there spot l).1
 
   pub record Held : Type 0 where
     pub value : Value t
-    pub looked : lookup k m ≡ some value
+    pub looked : lookup k m ≡ Some value
     pub row : run x place.start (place.end - place.start) ≡ row_bytes t (k ⟼ value)
     pub within : Within (row_format t) (row_in t (k ⟼ value))
 
@@ -104,7 +96,7 @@ module _ {x : List ℕ} {c : Contents} {s : State} (h : Holds x c s) (f : Formed
       (ap (λ (n : ℕ). cond (ltb place.start place.end) (n - 1) n) (count-is h t) ∙ remove-count spot)
 
   pub removed_tables : (q : List ℕ) (n : ℕ) → n ≡ place.start - tables_place c
-      → gather_of x q (0 ∷ tables_place c ∷ n ∷ 0 ∷ place.end ∷ length x ∷ []) ≡ joined (tables_of (with_map t (remove k m) s))
+      → gather_of x q (First (tables_place c) n ∷ First place.end (length x) ∷ []) ≡ joined (tables_of (with_map t (remove k m) s))
   removed_tables q n e =
       ap (λ (n : ℕ). run x (tables_place c) n ++ (run x place.end (length x) ++ [])) e ∙ removed_run spot ∙ sym (joined_with t (remove k m) s)
 
@@ -118,8 +110,8 @@ module _ {x : List ℕ} {c : Contents} {s : State} (h : Holds x c s) (f : Formed
         (ap (λ (n : ℕ). cond (ltb place.start place.end) n (n + 1)) (count-is h t) ∙ insert-count spot v)
 
     -- parts that gather to its row
-    pub inserted_tables : (q parts : List ℕ) → ((ps : List ℕ) → gather_of x q (parts ++ ps) ≡ row_bytes t (k ⟼ v) ++ gather_of x q ps) → (n : ℕ) → n ≡ place.start - tables_place c
-        → gather_of x q (0 ∷ tables_place c ∷ n ∷ (parts ++ 0 ∷ place.end ∷ length x ∷ [])) ≡ joined (tables_of (with_map t (insert k v m) s))
+    pub inserted_tables : (q : List ℕ) (parts : List Part) → ((ps : List Part) → gather_of x q (parts ++ ps) ≡ row_bytes t (k ⟼ v) ++ gather_of x q ps) → (n : ℕ) → n ≡ place.start - tables_place c
+        → gather_of x q (First (tables_place c) n ∷ (parts ++ First place.end (length x) ∷ [])) ≡ joined (tables_of (with_map t (insert k v m) s))
     inserted_tables q parts g n e =
-        (λ i. run x (tables_place c) (e i) ++ g (0 ∷ place.end ∷ length x ∷ []) i)
+        (λ i. run x (tables_place c) (e i) ++ g (First place.end (length x) ∷ []) i)
         ∙ inserted_run spot v (row_bytes t (k ⟼ v)) refl ∙ sym (joined_with t (insert k v m) s)

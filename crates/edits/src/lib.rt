@@ -21,7 +21,7 @@ pub fn after_insert(t: Table, p: Place, bytes: usize) -> Table
     requires { (t.size ≤ longest) × (t.count ≤ longest) × (bytes ≤ longest) }
     ensures { result ≡ after_insert t p bytes }
 {
-    let size = parts::less(t.size, parts::less(p.end, p.start)) + bytes;
+    let size = t.size.saturating_sub(p.end.saturating_sub(p.start)) + bytes;
     if p.start < p.end {
         return Table {
             at: t.at,
@@ -40,12 +40,12 @@ pub fn after_insert(t: Table, p: Place, bytes: usize) -> Table
 pub fn after_remove(t: Table, p: Place) -> Table
     ensures { result ≡ after_remove t p }
 {
-    let size = parts::less(t.size, parts::less(p.end, p.start));
+    let size = t.size.saturating_sub(p.end.saturating_sub(p.start));
     if p.start < p.end {
         return Table {
             at: t.at,
             size,
-            count: parts::less(t.count, 1),
+            count: t.count.saturating_sub(1),
         };
     }
     Table {

@@ -1,13 +1,11 @@
 -- DEMAND 2: the entries over bytes answer as the machine over maps does, on every state, request and token that the layout can
 -- hold, fault flags included; and what is written is read back.
-use Rattle.std.specs.Prelude.{ℕ, ◌≤◌, Bool, not, List, [], leb}
+use Rattle.std.specs.Prelude.{ℕ, ◌≤◌, Bool, not, List, [], leb, Option, None, Some, Result, Ok, Err}
 use Rattle.std.proofs.Common.{arith, ap, ◌∙◌, subst}
 use Rattle.std.proofs.Math.Path.{◌≡◌, refl}
 use Rattle.std.proofs.Math.Bool.{true, false, cond}
-use Rattle.std.proofs.Math.Option.{Option, none, some}
 use Rattle.std.proofs.Math.ListN.{length}
-use Rattle.parts.specs.Answer.{Answer, no, yes, status_of, image_of, longest, settle, settle-yes, written_of, laid_over}
-use Rattle.parts.specs.declared.Written.{Written}
+use Rattle.parts.specs.Answer.{Answer, no, yes, image_of, longest, settle, settle-yes, written_of, laid_over}
 use Rattle.parts.specs.Over.{over, over_none}
 use Rattle.parts.specs.Digits.{Bytes}
 use Rattle.state.specs.Maps.{is_some}
@@ -36,7 +34,7 @@ use Rattle.entries.proofs.Ways.{Took}
 pub record ReadAgain (next : State) (outcome : Outcome) (x y : List ℕ) : Type 0 where
   pub formed : Imaged next
   pub image_bytes : Bytes x
-  pub image_is : decode_image x ≡ some next
+  pub image_is : decode_image x ≡ Some next
   pub outcome_is_bytes : Bytes y
   pub outcome_is : decode_outcome y ≡ answer outcome
 
@@ -94,8 +92,8 @@ unfolding test_bytes
 test-is image = go (decode_image image)
   where
     go : (o : Option State) → status (◌>>=◌ (or_40 o) (λ s. answer 0)) ≡ cond (is_some o) 0 40
-    go none = refl
-    go (some s) = refl
+    go None = refl
+    go (Some s) = refl
 
 -- ANY BYTES that are accepted: what a call wrote is read again
 pub took_again : (image request : List ℕ) (room outcome_room : ℕ) (x y : List ℕ) → Bytes image → Bytes request → (t : Took image request room outcome_room x y) → ReadAgain t.call.next t.call.outcome x y
@@ -117,14 +115,18 @@ default-length = ap (λ (m : Measured). m.0) E1
 pub default_has_image : Imaged default
 default_has_image = record { fitting = formed_of default (default-formed image_texts) default-roomy; size = omega (arith, default-length) }
 
+-- what is written, as the answer of a call that lends one slice
+abbrev pub written_as : Answer → Result ℕ ℕ
+written_as (no n) = Err n
+written_as (yes x y) = Ok (length x)
+
 -- as `write` of the parts answers and leaves it in a lent slice d
 module _ (d : List ℕ) where
-  pub default-written : written_of d (encode_image default) ≡ record { status = status_of (default_bytes (length d)); length = length (image_of (default_bytes (length d))) }
+  pub default-written : written_of d (encode_image default) ≡ written_as (default_bytes (length d))
   unfolding default_bytes
   default-written = go (leb (length (encode_image default)) (length d))
     where
-      go : (b : Bool) → ◌≡◌ {A = Written} (cond b (record { status = 0; length = length (encode_image default) }) (record { status = 45; length = 0 }))
-          (record { status = status_of (cond b (yes (encode_image default) []) (no 45)); length = length (image_of (cond b (yes (encode_image default) []) (no 45))) })
+      go : (b : Bool) → ◌≡◌ {A = Result ℕ ℕ} (cond b (Ok (length (encode_image default))) (Err 45)) (written_as (cond b (yes (encode_image default) []) (no 45)))
       go true = refl
       go false = refl
 

@@ -1,8 +1,7 @@
 -- THE CLAIMS OF THE ANSWERS: a step to `caller_history`. The calls of `apply_bytes`, each on the image that the one before gave, follow
 -- `apply` on the state; so the claims hold of them.
-use Rattle.std.specs.Prelude.{ℕ, ◌≡◌, refl, ◌↔◌, List, length}
+use Rattle.std.specs.Prelude.{ℕ, ◌≡◌, refl, ◌↔◌, List, length, Option, Some, option_map}
 use Rattle.std.proofs.Common.{arith, sym, ap, ◌∙◌}
-use Rattle.std.proofs.Math.Option.{Option, some, map}
 use Rattle.parts.specs.Answer.{Answer, no, yes}
 use Rattle.state.specs.Records.{no_faults, State, default, SnapshotLeaseToken}
 use Rattle.machine.specs.Actions.{accepted}
@@ -21,7 +20,7 @@ use Rattle.entries.proofs.Agrees.{took_again, default_has_image}
 use Rattle.entries.specs.ByteHistory.{bytes, heard_by, left_by}
 
 -- EACH CALL IS A STEP
-one_state : (o : Option State) (s t : State) → o ≡ some s → o ≡ some t → s ≡ t
+one_state : (o : Option State) (s t : State) → o ≡ Some s → o ≡ Some t → s ≡ t
 one_state o s t p q = cc
 
 module _ (x : List ℕ) (s : State) (h : Holds x s) (c : Call) where
@@ -34,14 +33,14 @@ module _ (x : List ℕ) (s : State) (h : Holds x s) (c : Call) where
       let f : t.call.asked.faults ≡ no_faults = c.no_flags t.call.asked t.call.reads in
       let a : apply s t.call.asked.action t.call.asked.context no_faults ≡ accepted t.call.next t.call.outcome = rw (← p, ← f) t.call.applies in (
         t.call.next,
-        record { action = t.call.asked.action; context = t.call.asked.context; outcome = t.call.outcome; asks = ap (λ (r : Reply Request). map (λ q. q.action) (read r)) t.call.reads; answers = ap read k.outcome_is; applies = a },
+        record { action = t.call.asked.action; context = t.call.asked.context; outcome = t.call.outcome; asks = ap (λ (r : Reply Request). option_map (λ q. q.action) (read r)) t.call.reads; answers = ap read k.outcome_is; applies = a },
         (k.image_bytes, k.image_is),
       )
 
 -- VALIDATION OF ANY BYTES is that of the token that they spell
-module _ (x b : List ℕ) (s : State) (h : decode_image x ≡ some s) where
+module _ (x b : List ℕ) (s : State) (h : decode_image x ≡ Some s) where
   abbrev Spells : Type 0
-  Spells = (u : SnapshotLeaseToken) × (read (decode_token b) ≡ some u) × (validate s u ≡ 0)
+  Spells = (u : SnapshotLeaseToken) × (read (decode_token b) ≡ Some u) × (validate s u ≡ 0)
 
   validate-is : validate_bytes x b ≡ status (◌>>=◌ (decode_token b) (λ t. answer (validate s t)))
   unfolding validate_bytes
@@ -54,7 +53,7 @@ module _ (x b : List ℕ) (s : State) (h : decode_image x ≡ some s) where
       there (answer t) q z = (t, ap read q, z)
       there (refusal e) q z = absurd (let u = token-faults b e q in omega (arith, u.low))
 
-      back : (p : Reply SnapshotLeaseToken) → (u : SnapshotLeaseToken) × (read p ≡ some u) × (validate s u ≡ 0) → status (◌>>=◌ p (λ t. answer (validate s t))) ≡ 0
+      back : (p : Reply SnapshotLeaseToken) → (u : SnapshotLeaseToken) × (read p ≡ Some u) × (validate s u ≡ 0) → status (◌>>=◌ p (λ t. answer (validate s t))) ≡ 0
       back (answer t) g = let e : t ≡ g.0 = cc g.1 in rw e g.2
       back (refusal n) g = let z : ◌≡◌ {A = ℕ} 0 1 = cc g.1 in absurd (omega arith)
 

@@ -1,10 +1,12 @@
 -- DEMAND 3: the claims hold of the calls as their caller holds them. Each call leaves and tells just what its answer says, so they are
 -- the claims of the answers.
 -- Assumes nothing.
-use Rattle.std.specs.Prelude.{ℕ, ◌≡◌, refl, Bool, true, false, List, eqb, length, take}
+use Rattle.std.specs.Prelude.{ℕ, ◌≡◌, refl, Bool, true, false, List, eqb, length, take, Result}
 use Rattle.std.proofs.Common.{sym, ap, ◌∙◌, subst, eqb-true}
 use Rattle.std.proofs.Math.Seq.{take-append_seam}
-use Rattle.parts.specs.Answer.{Answer, no, yes, Gave}
+use Rattle.refusals.specs.declared.Refusal.{Refusal}
+use Rattle.parts.specs.Answer.{Answer, no, yes, told_of, Gave}
+use Rattle.parts.specs.declared.Lengths.{Lengths}
 use Rattle.parts.specs.Over.{over}
 use Rattle.state.specs.Records.{default}
 use Rattle.machine.specs.Ledger.{Event}
@@ -16,8 +18,9 @@ use Rattle.entries.specs.ByteHistory.{left_by, heard_by, bytes}
 use Rattle.entries.proofs.ByteHistoryLaws.{byte_history}
 
 -- WHAT THE CONTRACT of `transition::apply` ensures is what the caller sees.
-pub contract_seen : (A : Answer) (c : Call) (v : Seen) → Gave A c.next c.outcome v.answered v.next v.outcome → v ≡ seen A c
-contract_seen A c v g = λ i. record { answered = g.answer i; next = g.image i; outcome = g.outcome i }
+pub contract_seen : (A : Answer) (c : Call) (r : Result Lengths Refusal) (next outcome : List ℕ) → Gave A c.next c.outcome r next outcome
+    → ◌≡◌ {A = Seen} (record { answered = told_of r; next = next; outcome = outcome }) (seen A c)
+contract_seen A c r next outcome g = λ i. record { answered = g.answer i; next = g.image i; outcome = g.outcome i }
 
 -- THE FIRST BYTES of a slice that x was laid over are x
 front : (d x : List ℕ) → take (length x) (over d 0 x) ≡ x

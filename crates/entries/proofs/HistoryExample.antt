@@ -1,10 +1,9 @@
 -- A HISTORY, COMPUTED: eight calls on bytes, with slices of some content lent. Its ledger is computed, and two of the claims are used on
 -- it, so that a statement that says too little, or that no history meets, is seen here.
 -- Assumes nothing.
-use Rattle.std.specs.Prelude.{ℕ, zero, suc, ◌≡◌, refl, true, List, [], ◌∷◌, ltb, replicate, take}
+use Rattle.std.specs.Prelude.{ℕ, zero, suc, ◌≡◌, refl, true, List, [], ◌∷◌, ltb, replicate, take, Some}
 use Rattle.std.proofs.Common.{arith, sym, ap, ◌∙◌, ltb-true}
 use mathlib.Core.List.Memᴰ
-use Rattle.std.proofs.Math.Option.{some}
 use Rattle.parts.specs.Digits.{Bytes}
 use Rattle.state.specs.Maps.{◌⟼◌, Every, all, lookup}
 use Rattle.state.specs.Records.{PublicationAuthorityFaults, no_faults, default, SnapshotLeaseToken}
@@ -90,9 +89,9 @@ record Computed : Type 0 where
   six : ledger caller start (take 6 calls) ≡ record { live = (id ⟼ leased (token 8 2 12 ∷ token 8 1 9 ∷ [])) ∷ []; ended = [] }
   seven : ledger caller start (take 7 calls) ≡ record { live = []; ended = token 8 2 12 ∷ token 8 1 9 ∷ [] }
   eight : ledger caller start (take 8 calls) ≡ record { live = (id ⟼ leased (token 8 4 9 ∷ [])) ∷ []; ended = token 8 2 12 ∷ token 8 1 9 ∷ [] }
-  live : lookup id (ledger caller start (take 8 calls)).live ≡ some (leased (token 8 4 9 ∷ []))
-  spells_old : read (decode_token (encode_token (token 8 2 12))) ≡ some (token 8 2 12)
-  spells_new : read (decode_token (encode_token (token 8 4 9))) ≡ some (token 8 4 9)
+  live : lookup id (ledger caller start (take 8 calls)).live ≡ Some (leased (token 8 4 9 ∷ []))
+  spells_old : read (decode_token (encode_token (token 8 2 12))) ≡ Some (token 8 2 12)
+  spells_new : read (decode_token (encode_token (token 8 4 9))) ≡ Some (token 8 4 9)
 
 computed : Computed
 unfolding bytes_compute

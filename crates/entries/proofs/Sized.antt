@@ -1,8 +1,7 @@
 -- A state has an image just where it is well formed, its texts within the limits, its tables and its image within theirs.
-use Rattle.std.specs.Prelude.{ℕ, ◌≡◌, true, leb, length}
+use Rattle.std.specs.Prelude.{ℕ, ◌≡◌, true, leb, length, Option, None, Some}
 use Rattle.std.proofs.Math.Path.{refl}
 use mathlib.Core.List.{[], ◌∷◌}
-use Rattle.std.proofs.Math.Option.{Option, none, some}
 use Rattle.std.proofs.Common.{leb-true}
 use Rattle.state.specs.Maps.{Text, Map, Entry, ◌⟼◌}
 use Rattle.state.specs.Sorted.{Each}
@@ -27,12 +26,12 @@ abbrev pub image_texts : Texts
 image_texts = record { Key = TextOk key_limit; Name = TextOk short; Keys = Rows (TextOk key_limit) itself set_most }
 
 pub prior_within : (o : Option ObjectReference) → Maybe (ReferenceFits image_texts) o → MaybeWithin (Within reference) (each_option reference_parts o)
-prior_within none h = tt
-prior_within (some r) h = h
+prior_within None h = tt
+prior_within (Some r) h = h
 
 pub prior_fits : (o : Option ObjectReference) → MaybeWithin (Within reference) (each_option reference_parts o) → Maybe (ReferenceFits image_texts) o
-prior_fits none h = tt
-prior_fits (some r) h = h
+prior_fits None h = tt
+prior_fits (Some r) h = h
 
 -- ROWS AND TABLES
 module _ {A B : Type 0} (at : Entry A → Text × B) (W : Text × B → Type 0) (P : Text → A → Type 0) where
@@ -46,12 +45,12 @@ module _ {A B : Type 0} (at : Entry A → Text × B) (W : Text × B → Type 0) 
     within-each [] h = tt
     within-each ((k ⟼ v) ∷ m) h = ((fits k v h.0).1, within-each m h.1)
 
-    ascends-below : (m : Map A) (k : Text) → Each P m → Below k m → Ascending m → ascends id (some k) (each at m) ≡ true
+    ascends-below : (m : Map A) (k : Text) → Each P m → Below k m → Ascending m → ascends id (Some k) (each at m) ≡ true
     unfolding each ascends after
     ascends-below [] k h b a = refl
     ascends-below ((j ⟼ v) ∷ m) k h b a = rw ((fits j v h.0).0, b, ascends-below m j h.1 a.0 a.1)
 
-    ascends-all : (m : Map A) → Each P m → Ascending m → ascends id none (each at m) ≡ true
+    ascends-all : (m : Map A) → Each P m → Ascending m → ascends id None (each at m) ≡ true
     unfolding each ascends after
     ascends-all [] h a = refl
     ascends-all ((j ⟼ v) ∷ m) h a = rw (fits j v h.0).0 (ascends-below m j h.1 a.0 a.1)

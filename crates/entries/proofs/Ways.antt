@@ -1,8 +1,7 @@
 -- The ways in which `apply_bytes` comes to its answer, and what each answer tells.
-use Rattle.std.specs.Prelude.{ℕ, ◌≤◌, ◌<◌, ◌≡◌, Bool, true, false, cond, not, List, ltb, length}
+use Rattle.std.specs.Prelude.{ℕ, ◌≤◌, ◌<◌, ◌≡◌, Bool, true, false, cond, not, List, ltb, length, Option, None, Some}
 use Rattle.std.proofs.Common.{arith, sym, ◌∙◌, ltb-true, ltb-false}
 use Rattle.std.proofs.Math.Path.{refl}
-use Rattle.std.proofs.Math.Option.{Option, none, some}
 use Rattle.parts.specs.Answer.{Answer, no, yes, longest, settle}
 use Rattle.state.specs.Records.{State}
 use Rattle.machine.specs.Actions.{Outcome, Transition, rejected, accepted}
@@ -48,7 +47,7 @@ pub record Applied (image request : List ℕ) : Type 0 where
   pub asked : Request
   pub next : State
   pub outcome : Outcome
-  pub holds : decode_image image ≡ some now
+  pub holds : decode_image image ≡ Some now
   pub reads : decode_request request ≡ answer asked
   pub applies : apply now asked.action asked.context asked.faults ≡ accepted next outcome
 
@@ -58,9 +57,9 @@ module _ (image request : List ℕ) (room outcome_room : ℕ) where
   Last t A = Settled (over_limit t.next) (encode_image t.next) (encode_outcome t.outcome) room outcome_room A
 
   pub data Way (A : Answer) : Type 0 where
-    no-image : decode_image image ≡ none → A ≡ no 40 → Way A
-    no-request : (s : State) → decode_image image ≡ some s → (n : ℕ) → decode_request request ≡ refusal n → A ≡ no n → Way A
-    rejects : (s : State) → decode_image image ≡ some s → (q : Request) → decode_request request ≡ answer q → (n : ℕ) → apply s q.action q.context q.faults ≡ rejected n → A ≡ no n → Way A
+    no-image : decode_image image ≡ None → A ≡ no 40 → Way A
+    no-request : (s : State) → decode_image image ≡ Some s → (n : ℕ) → decode_request request ≡ refusal n → A ≡ no n → Way A
+    rejects : (s : State) → decode_image image ≡ Some s → (q : Request) → decode_request request ≡ answer q → (n : ℕ) → apply s q.action q.context q.faults ≡ rejected n → A ≡ no n → Way A
     accepts : (t : Applied image request) → Last t A → Way A
 
   abbrev rest : State → Reply Transition
@@ -70,19 +69,19 @@ module _ (image request : List ℕ) (room outcome_room : ℕ) where
   unfolding apply_bytes
   way = from-image (decode_image image) refl
     where
-      from-apply : (s : State) → decode_image image ≡ some s → (q : Request) → decode_request request ≡ answer q → (t : Transition) → apply s q.action q.context q.faults ≡ t → Way (settled room outcome_room (answer t))
+      from-apply : (s : State) → decode_image image ≡ Some s → (q : Request) → decode_request request ≡ answer q → (t : Transition) → apply s q.action q.context q.faults ≡ t → Way (settled room outcome_room (answer t))
       from-apply s hs q hq (rejected n) e = rejects s hs q hq n e refl
       from-apply s hs q hq (accepted next o) e =
           accepts (record { now = s; asked = q; next = next; outcome = o; holds = hs; reads = hq; applies = e }) (settles (over_limit next) (encode_image next) (encode_outcome o) room outcome_room)
 
-      from-request : (s : State) → decode_image image ≡ some s → (r : Reply Request) → decode_request request ≡ r
+      from-request : (s : State) → decode_image image ≡ Some s → (r : Reply Request) → decode_request request ≡ r
           → Way (settled room outcome_room (◌>>=◌ r (λ q. answer (apply s q.action q.context q.faults))))
       from-request s hs (refusal n) e = no-request s hs n e refl
       from-request s hs (answer q) e = from-apply s hs q e (apply s q.action q.context q.faults) refl
 
       from-image : (o : Option State) → decode_image image ≡ o → Way (settled room outcome_room (◌>>=◌ (or_40 o) rest))
-      from-image none e = no-image e refl
-      from-image (some s) e = from-request s e (decode_request request) refl
+      from-image None e = no-image e refl
+      from-image (Some s) e = from-request s e (decode_request request) refl
 
   -- WHAT AN ACCEPTANCE TELLS
   pub record Took (x y : List ℕ) : Type 0 where

@@ -1,8 +1,7 @@
 -- The starred edges E2 to E10, and the order of ids, OVER BYTES: the rows of the machine's table, asked of the byte entries. Each
 -- call is an encoded request on the image that the call before it wrote, the first on the default image, with as much room as
 -- okvstep lends.
-use Rattle.std.specs.Prelude.{ℕ, Bool, false, ◌&&◌, List, [], ◌∷◌, map, eqb, length}
-use Rattle.std.proofs.Math.Option.{Option, none, some}
+use Rattle.std.specs.Prelude.{ℕ, Bool, false, ◌&&◌, List, [], ◌∷◌, map, eqb, length, Option, None, Some}
 use Rattle.text.specs.Same.{same_of}
 use Rattle.parts.specs.Answer.{Answer, no, yes, status_of, outcome_of}
 use Rattle.state.specs.Maps.{Text, ◌⟼◌, same_texts, is_empty}
@@ -49,8 +48,8 @@ wrote p (yes image outcome) = p image
 
 -- p of the state that an image holds
 abbrev held : (State → Bool) → Option State → Bool
-held p none = false
-held p (some s) = p s
+held p None = false
+held p (Some s) = p s
 
 abbrev leaves : (State → Bool) → Answer → Bool
 leaves p A = wrote (λ image. held p (decode_image image)) A

@@ -1,9 +1,7 @@
 -- A HISTORY AS ITS CALLER HOLDS IT: the calls, what the caller sees after one, and what follows from that alone. Definitions only;
 -- the claims hold of them by `caller_history`.
-use Rattle.std.specs.Prelude.{ℕ, ◌≡◌, cond, List, eqb, length, take}
-use Rattle.std.proofs.Math.Option.{Option, none, some, map}
-use Rattle.parts.specs.Answer.{Answer, image_of, outcome_of, applied_of}
-use Rattle.parts.specs.declared.Applied.{Applied}
+use Rattle.std.specs.Prelude.{ℕ, ◌≡◌, cond, List, eqb, length, take, Option, None, Some, option_map}
+use Rattle.parts.specs.Answer.{Answer, image_of, outcome_of, Told, applied_of}
 use Rattle.parts.specs.Over.{over}
 use Rattle.parts.specs.Digits.{Bytes}
 use Rattle.state.specs.Records.{no_faults, State}
@@ -29,7 +27,7 @@ reply x c = apply_bytes x c.request (length c.next) (length c.outcome)
 -- WHAT THE CALLER SEES after it: what was answered, and both slices. These are the three equations that the contract of
 -- `transition::apply` ensures, where A is `reply` of the image and the call.
 pub record Seen : Type 0 where
-  pub answered : Applied
+  pub answered : Told
   pub next : List ℕ
   pub outcome : List ℕ
 
@@ -43,11 +41,11 @@ left x v = cond (eqb v.answered.status 0) (take v.answered.image v.next) x
 
 -- what bytes say, if they can be read
 abbrev pub read : {A : Type 0} → Reply A → Option A
-read (answer v) = some v
-read (refusal n) = none
+read (answer v) = Some v
+read (refusal n) = None
 
 abbrev pub event : (request outcome : List ℕ) → Event
-event request outcome = took (map (λ q. q.action) (read (decode_request request))) (read (decode_outcome outcome))
+event request outcome = took (option_map (λ q. q.action) (read (decode_request request))) (read (decode_outcome outcome))
 
 -- THE EVENT: where the status is 0, the request and the first bytes of the outcome slice, as many as were answered, each as it reads.
 abbrev pub heard : (request : List ℕ) → Seen → Event
@@ -55,7 +53,7 @@ heard request v = cond (eqb v.answered.status 0) (event request (take v.answered
 
 -- the state that an image holds
 abbrev pub Holds : List ℕ → State → Type 0
-Holds x s = Bytes x × (decode_image x ≡ some s)
+Holds x s = Bytes x × (decode_image x ≡ Some s)
 
 -- Images and tokens are bytes, and validation is `validate_bytes`.
 abbrev pub over_bytes : (call : List ℕ → Call → List ℕ) (told : List ℕ → Call → Event) → Machine

@@ -1,3 +1,3 @@
-pub mod Steps
 pub mod Gathering
+pub mod Unique
 pub mod Ranked

@@ -1,14 +1,12 @@
 -- A format as a flat list of codes, for a loop. The checked walk finds the first fault as `dec` does; the skip walk hops to where `dec` ends.
-use Rattle.std.specs.Prelude.{ℕ, zero, suc, ◌+◌, ◌-◌, ◌≤◌, ◌<◌, ◌≡◌, refl, true, List, [], ◌∷◌, ◌++◌, leb, ltb, eqb, length, take, drop}
-use Rattle.std.proofs.Common.{arith, sym, ap, ◌∙◌, append_assoc, append-nil, lt-ltb, le-ltb, ne_eqb, ltb-true, leb-true, eqb-true}
-use Rattle.std.proofs.Math.Option.{Option, none, some}
-use Rattle.std.proofs.lemmas.List.{length-map}
-use Rattle.state.specs.Maps.{Text}
+use Rattle.std.specs.Prelude.{ℕ, zero, suc, ◌≡◌, refl, List, [], ◌∷◌, ◌++◌, leb, length, take, drop, Option, None, Some}
+use Rattle.std.proofs.Common.{sym, ap, ◌∙◌, append_assoc, append-nil}
 use Rattle.text.specs.Utf8.{utf8}
-use Rattle.text.specs.SameLaws.{and_left, and_right}
 use Rattle.fields.specs.Format.{Malformed, OverLimit, NotUtf8, Res, ok, bad, bind, byte, many, read_number, read_kind, read_option, read_text, after, rows, itself, read_set, Field, nothing, number, kind, text, option, set, ◌▹◌, El, dec}
 use Rattle.fields.proofs.FormatLaws.{never, bind_ok, check-ok, byte-ok}
-use Rattle.fields.specs.Codes.{Code, a_set, a_text, advance, code_of, codes, codes_of, forget, has_shape, hop, hop_set, hops, key_limit, maybe, passed, past, read_flag, set_most, shape, skip, step, walk}
+use Rattle.fields.specs.declared.Code.{Code}
+use Rattle.fields.specs.declared.Code.TheVariants.{Maybe}
+use Rattle.fields.specs.Codes.{advance, codes, forget, hop, hop_set, hops, passed, past, read_flag, skip, step, walk}
 
 pub bind-same : {A B : Type 0} (m : Res A) (k l : A → List ℕ → Res B) → ((v : A) (r : List ℕ) → m ≡ ok v r → k v r ≡ l v r) → bind m k ≡ bind m l
 bind-same (ok v r) k l h = h v r refl
@@ -24,7 +22,7 @@ walk-past [] cs s = refl
 walk-past (d ∷ ds) cs s = walk-past ds cs s
 
 walk-maybe : {A : Type 0} (item : List ℕ → Res A) (ds cs : List Code) → ((s : List ℕ) → walk zero (ds ++ cs) s ≡ bind (item s) (λ _ r. walk zero cs r))
-    → (s : List ℕ) → walk zero (maybe (length ds) ∷ ds ++ cs) s ≡ bind (read_option item s) (λ _ r. walk zero cs r)
+    → (s : List ℕ) → walk zero (Maybe (length ds) ∷ ds ++ cs) s ≡ bind (read_option item s) (λ _ r. walk zero cs r)
 unfolding walk advance step read_flag read_option
 walk-maybe item ds cs h [] = refl
 walk-maybe item ds cs h (zero ∷ s) = walk-past ds cs s
@@ -33,7 +31,7 @@ walk-maybe item ds cs h (suc (suc k) ∷ s) = refl
 
 -- THE CHECKED WALK IS `dec`, and then the walk over what follows
 pub walk-dec : (f : Field) (cs : List Code) (s : List ℕ) → walk zero (codes f ++ cs) s ≡ bind (dec f s) (λ _ r. walk zero cs r)
-unfolding walk advance step codes dec read_number
+unfolding walk advance step dec read_number
 walk-dec nothing cs s = refl
 walk-dec (number k) cs s = bind-bind (many k s) _ _ ∙ sym (bind-bind (many k s) _ _)
 walk-dec kind cs s = bind-bind (read_kind s) _ _
@@ -72,22 +70,22 @@ text-rest n s t r h =
     let e : r₂ ≡ r = cc in
     rw (byte-ok s k r₁ e₁) (many-rest k r₁ v r₂ e₂ ∙ e)
 
-pub texts_rest : (n k : ℕ) (p : Option Text) (s : List ℕ) (ts : List Text) (r : List ℕ) → rows (read_text n) itself k p s ≡ ok ts r → hops k s ≡ r
+pub texts_rest : (n k : ℕ) (p : Option (List ℕ)) (s : List ℕ) (ts : List (List ℕ)) (r : List ℕ) → rows (read_text n) itself k p s ≡ ok ts r → hops k s ≡ r
 unfolding rows hops
 texts_rest n zero p s ts r h = cc
 texts_rest n (suc k) p s ts r h =
     let (v, r₁, e₁, h₁) = bind_ok (read_text n s) _ ts r h in
     let (a, h₂) = check-ok (after p v) Malformed _ ts r h₁ in
-    let (ws, r₂, e₂, h₃) = bind_ok (rows (read_text n) itself k (some v) r₁) _ ts r h₂ in
+    let (ws, r₂, e₂, h₃) = bind_ok (rows (read_text n) itself k (Some v) r₁) _ ts r h₂ in
     let e : r₂ ≡ r = cc in
-    rw (text-rest n s v r₁ e₁) (texts_rest n k (some v) r₁ ws r₂ e₂ ∙ e)
+    rw (text-rest n s v r₁ e₁) (texts_rest n k (Some v) r₁ ws r₂ e₂ ∙ e)
 
-pub set_rest : (m n : ℕ) (s : List ℕ) (ts : List Text) (r : List ℕ) → read_set m n s ≡ ok ts r → hop_set s ≡ r
+pub set_rest : (m n : ℕ) (s : List ℕ) (ts : List (List ℕ)) (r : List ℕ) → read_set m n s ≡ ok ts r → hop_set s ≡ r
 unfolding read_set hop_set
 set_rest m n s ts r h =
     let (k, r₁, e₁, h₁) = bind_ok (byte s) _ ts r h in
     let (c, h₂) = check-ok (leb k m) OverLimit _ ts r h₁ in
-    rw (byte-ok s k r₁ e₁) (texts_rest n k none r₁ ts r h₂)
+    rw (byte-ok s k r₁ e₁) (texts_rest n k None r₁ ts r h₂)
 
 skip-over : (ds cs : List Code) (s : List ℕ) → skip (length ds) (ds ++ cs) s ≡ skip zero cs s
 unfolding skip
@@ -95,7 +93,7 @@ skip-over [] cs s = refl
 skip-over (d ∷ ds) cs s = skip-over ds cs s
 
 skip-maybe : {A : Type 0} (item : List ℕ → Res A) (ds cs : List Code) → ((s : List ℕ) (v : A) (r : List ℕ) → item s ≡ ok v r → skip zero (ds ++ cs) s ≡ skip zero cs r)
-    → (s : List ℕ) (o : Option A) (r : List ℕ) → read_option item s ≡ ok o r → skip zero (maybe (length ds) ∷ ds ++ cs) s ≡ skip zero cs r
+    → (s : List ℕ) (o : Option A) (r : List ℕ) → read_option item s ≡ ok o r → skip zero (Maybe (length ds) ∷ ds ++ cs) s ≡ skip zero cs r
 unfolding skip past passed read_option
 skip-maybe item ds cs h [] o r e = absurd (never Malformed o r e)
 skip-maybe item ds cs h (zero ∷ s) o r e = let q : s ≡ r = cc in skip-over ds cs s ∙ ap (skip zero cs) q
@@ -107,7 +105,7 @@ skip-maybe item ds cs h (suc (suc k) ∷ s) o r e = absurd (never Malformed o r 
 
 -- THE SKIP WALK ENDS WHERE `dec` DOES, on bytes that it accepts
 pub skip-dec : (f : Field) (cs : List Code) (s : List ℕ) (v : El f) (r : List ℕ) → dec f s ≡ ok v r → skip zero (codes f ++ cs) s ≡ skip zero cs r
-unfolding skip past passed codes dec read_number
+unfolding skip past passed dec read_number
 skip-dec nothing cs s v r h = let q : s ≡ r = cc in ap (skip zero cs) q
 skip-dec (number k) cs s v r h =
     let (t, r₁, e₁, h₁) = bind_ok (many k s) _ v r h in
@@ -122,37 +120,3 @@ skip-dec (f ▹ g) cs s v r h =
     let (y, r₂, e₂, h₂) = bind_ok (dec g r₁) _ v r h₁ in
     let q : r₂ ≡ r = cc in
     rw append_assoc (skip-dec f (codes g ++ cs) s x r₁ e₁ ∙ skip-dec g cs r₁ y r₂ e₂ ∙ ap (skip zero cs) q)
-
-text_code : (n : ℕ) → 32 ≤ n → code_of n ≡ a_text n
-unfolding code_of
-text_code n h = rw (le-ltb n 9 (omega arith), ne_eqb n 9 (omega arith), ne_eqb n 10 (omega arith), le-ltb n 32 h) refl
-
-option_code : (k : ℕ) → k < 21 → code_of (11 + k) ≡ maybe k
-unfolding code_of
-option_code k h =
-    let q : 11 + k - 11 ≡ k = omega arith in
-    rw (le-ltb (11 + k) 9 (omega arith), ne_eqb (11 + k) 9 (omega arith), ne_eqb (11 + k) 10 (omega arith), lt-ltb (11 + k) 32 (omega arith), q) refl
-
-codes-append : (xs ys : List ℕ) → codes_of (xs ++ ys) ≡ codes_of xs ++ codes_of ys
-unfolding codes_of
-codes-append [] ys = refl
-codes-append (x ∷ xs) ys = ap (λ (cs : List Code). code_of x ∷ cs) (codes-append xs ys)
-
--- THE BYTES OF A FORMAT STAND FOR ITS CODES
-pub shape-codes : (f : Field) → has_shape f ≡ true → codes_of (shape f) ≡ codes f
-unfolding codes code_of codes_of
-shape-codes nothing h = refl
-shape-codes (number k) h = rw h refl
-shape-codes kind h = refl
-shape-codes (text n) h = ap (λ (c : Code). c ∷ []) (text_code n (leb-true 32 n h))
-shape-codes (option f) h =
-    let s = shape-codes f (and_right (ltb (length (shape f)) 21) (has_shape f) h) in
-    let n : length (shape f) ≡ length (codes f) = sym (length-map (shape f) code_of) ∙ ap length s in
-    λ i. (option_code (length (shape f)) (ltb-true (length (shape f)) 21 (and_left (ltb (length (shape f)) 21) (has_shape f) h)) ∙ ap maybe n) i ∷ s i
-shape-codes (set m n) h =
-    let a : set_most ≡ m = sym (eqb-true m set_most (and_left (eqb m set_most) (eqb n key_limit) h)) in
-    let b : key_limit ≡ n = sym (eqb-true n key_limit (and_right (eqb m set_most) (eqb n key_limit) h)) in
-    λ i. a_set (a i) (b i) ∷ []
-shape-codes (f ▹ g) h =
-    codes-append (shape f) (shape g)
-    ∙ (λ i. shape-codes f (and_left (has_shape f) (has_shape g) h) i ++ shape-codes g (and_right (has_shape f) (has_shape g) h) i)

@@ -1,9 +1,8 @@
 -- The laws of the formats: what is written is read back, and what is read is as it would be written.
 use Prim.Native.Nat.{ℕ, zero, suc, ◌^◌, ◌<◌}
 use Rattle.std.proofs.Common.{arith, ◌∙◌, length-append, take-append-drop, length-take-le, le-leb, ltb-true, leb-true}
-use Rattle.std.specs.Prelude.{Bool, true, false, ◌&&◌, ◌≡◌, length, take, drop, leb, ltb}
+use Rattle.std.specs.Prelude.{Bool, true, false, ◌&&◌, ◌≡◌, length, take, drop, leb, ltb, Option, None, Some}
 use mathlib.Core.List.{List, [], ◌∷◌, ◌++◌, append_assoc}
-use Rattle.std.proofs.Math.Option.{Option, none, some}
 use Rattle.std.proofs.Math.Path.{refl, sym, ap}
 use Rattle.std.proofs.Math.Seq.{take-append_seam, drop-append_seam}
 use Rattle.state.specs.Maps.{Text}
@@ -78,23 +77,23 @@ module _ {A : Type 0} (item : List ℕ → Res A) (write : A → List ℕ) (P : 
 
   option-enc : ReadsBack → (o : Option A) (rest : List ℕ) → Maybe P o → read_option item (enc_option write o ++ rest) ≡ ok o rest
   unfolding read_option enc_option
-  option-enc one none rest h = refl
-  option-enc one (some v) rest h = rw (one v rest h)
+  option-enc one None rest h = refl
+  option-enc one (Some v) rest h = rw (one v rest h)
 
   option-ok : AsWritten → (s : List ℕ) (o : Option A) (r : List ℕ) → Bytes s → read_option item s ≡ ok o r → (s ≡ enc_option write o ++ r) × Maybe P o
   unfolding read_option enc_option
   option-ok one [] o r b h = absurd (never Malformed o r h)
   option-ok one (zero ∷ s) o r b h =
-      let eo : none ≡ o = cc in
+      let eo : None ≡ o = cc in
       let er : s ≡ r = cc in
       rw (← eo, ← er) (refl, tt)
   option-ok one (suc zero ∷ s) o r b h =
       let (v, r₁, e₁, h₁) = bind_ok (item s) _ o r h in
       got v r₁ (one s v r₁ (bytes_right (1 ∷ []) s b) e₁) h₁
     where
-      got : (v : A) (r₁ : List ℕ) → (s ≡ write v ++ r₁) × P v → ok (some v) r₁ ≡ ok o r → (1 ∷ s ≡ enc_option write o ++ r) × Maybe P o
+      got : (v : A) (r₁ : List ℕ) → (s ≡ write v ++ r₁) × P v → ok (Some v) r₁ ≡ ok o r → (1 ∷ s ≡ enc_option write o ++ r) × Maybe P o
       got v r₁ (i, p) h =
-          let eo : some v ≡ o = cc in
+          let eo : Some v ≡ o = cc in
           let er : r₁ ≡ r = cc in
           rw (← eo, ← er) (ap (λ (l : List ℕ). 1 ∷ l) i, p)
   option-ok one (suc (suc k) ∷ s) o r b h = absurd (never Malformed o r h)
@@ -104,8 +103,8 @@ module _ {A : Type 0} (item : List ℕ → Res A) (write : A → List ℕ) (P : 
     unfolding rows all ascends
     rows-enc one [] p rest h a = refl
     rows-enc one (v ∷ vs) p rest h a =
-        let (a₀, a₁) = and_true (after p (key v)) (ascends key (some (key v)) vs) a in
-        rw (append_assoc, one v (all write vs ++ rest) h.0, a₀, rows-enc one vs (some (key v)) rest h.1 a₁)
+        let (a₀, a₁) = and_true (after p (key v)) (ascends key (Some (key v)) vs) a in
+        rw (append_assoc, one v (all write vs ++ rest) h.0, a₀, rows-enc one vs (Some (key v)) rest h.1 a₁)
 
     pub record Rowed (n : ℕ) (p : Option Text) (s : List ℕ) (vs : List A) (r : List ℕ) : Type 0 where
       pub is : s ≡ all write vs ++ r
@@ -114,7 +113,7 @@ module _ {A : Type 0} (item : List ℕ → Res A) (write : A → List ℕ) (P : 
       pub ascending : ascends key p vs ≡ true
 
     more : {n : ℕ} {p : Option Text} {s : List ℕ} {v : A} {r₁ : List ℕ} {ws : List A} {r₂ : List ℕ} {vs : List A} {r : List ℕ}
-        → s ≡ write v ++ r₁ → P v → after p (key v) ≡ true → Rowed n (some (key v)) r₁ ws r₂ → ok (v ∷ ws) r₂ ≡ ok vs r → Rowed (suc n) p s vs r
+        → s ≡ write v ++ r₁ → P v → after p (key v) ≡ true → Rowed n (Some (key v)) r₁ ws r₂ → ok (v ∷ ws) r₂ ≡ ok vs r → Rowed (suc n) p s vs r
     unfolding all ascends
     more {v = v} {ws = ws} {r₂ = r₂} {vs = vs} {r = r} i g a ih e =
         let ev : v ∷ ws ≡ vs = cc in
@@ -135,14 +134,14 @@ module _ {A : Type 0} (item : List ℕ → Res A) (write : A → List ℕ) (P : 
     rows_ok one (suc n) p s vs r b h =
         let (v, r₁, e₁, h₁) = bind_ok (item s) _ vs r h in
         let (a, h₂) = check-ok (after p (key v)) Malformed _ vs r h₁ in
-        let (ws, r₂, e₂, h₃) = bind_ok (rows item key n (some (key v)) r₁) _ vs r h₂ in
+        let (ws, r₂, e₂, h₃) = bind_ok (rows item key n (Some (key v)) r₁) _ vs r h₂ in
         let (i, g) = one s v r₁ b e₁ in
-        more i g a (rows_ok one n (some (key v)) r₁ ws r₂ (bytes_right (write v) r₁ (rw i at b)) e₂) h₃
+        more i g a (rows_ok one n (Some (key v)) r₁ ws r₂ (bytes_right (write v) r₁ (rw i at b)) e₂) h₃
 
 set-enc : (m n : ℕ) (ts : List Text) (rest : List ℕ) → Within (set m n) ts → read_set m n (enc (set m n) ts ++ rest) ≡ ok ts rest
 unfolding read_set enc byte
 set-enc m n ts rest h =
-    rw (le-leb (length ts) m h.count, rows-enc (read_text n) enc_text (TextOk n) itself (text-enc n) ts none rest h.each h.ascending)
+    rw (le-leb (length ts) m h.count, rows-enc (read_text n) enc_text (TextOk n) itself (text-enc n) ts None rest h.each h.ascending)
 
 -- WHAT IS WRITTEN IS READ BACK
 pub dec-enc : (f : Field) (v : El f) (rest : List ℕ) → Within f v → dec f (enc f v ++ rest) ≡ ok v rest
@@ -228,7 +227,7 @@ set-ok m n s ts r b h =
     let (k, r₁, e₁, h₁) = bind_ok (byte s) _ ts r h in
     let (c, h₂) = check-ok (leb k m) OverLimit _ ts r h₁ in
     let i : s ≡ k ∷ r₁ = byte-ok s k r₁ e₁ in
-    let w = rows_ok (read_text n) enc_text (TextOk n) itself (text-ok n) k none r₁ ts r (bytes_right (k ∷ []) r₁ (rw i at b)) h₂ in
+    let w = rows_ok (read_text n) enc_text (TextOk n) itself (text-ok n) k None r₁ ts r (bytes_right (k ∷ []) r₁ (rw i at b)) h₂ in
     let l : length ts ≡ k = w.count in
     let j : r₁ ≡ all enc_text ts ++ r = w.is in
     (cc, record { count = omega (arith, leb-true k m c); each = w.each; ascending = w.ascending })
@@ -277,8 +276,8 @@ bytes-all write P one (v ∷ vs) h = bytes-append (write v) (all write vs) (one 
 
 bytes-option : {A : Type 0} (write : A → List ℕ) (P : A → Type 0) → ((v : A) → P v → Bytes (write v)) → (o : Option A) → Maybe P o → Bytes (enc_option write o)
 unfolding enc_option
-bytes-option write P one none h = bytes-cons 0 [] (omega arith) (λ i. omega arith)
-bytes-option write P one (some v) h = bytes-cons 1 (write v) (omega arith) (one v h)
+bytes-option write P one None h = bytes-cons 0 [] (omega arith) (λ i. omega arith)
+bytes-option write P one (Some v) h = bytes-cons 1 (write v) (omega arith) (one v h)
 
 bytes-kind : (v : ObjectKind) → kind_byte v < 256
 bytes-kind Data = omega arith

@@ -1,5 +1,5 @@
-pub mod WalkSteps
 pub mod FormatLaws
 pub mod CodeLaws
 pub mod WalkLaws
 pub mod RowLaws
+pub mod WalkSteps

@@ -1,12 +1,12 @@
 -- Rows, one after the other, each with a text at its head that stands after the one before it.
-use Rattle.std.specs.Prelude.{ℕ, zero, suc, Bool, true, false, List, ◌∷◌, ◌++◌, ◌≡◌, refl}
-use Rattle.std.proofs.Math.Option.{Option, some}
+use Rattle.std.specs.Prelude.{ℕ, zero, suc, Bool, true, false, List, ◌∷◌, ◌++◌, ◌≡◌, refl, Option, Some}
 use Rattle.std.proofs.Common.{sym, ap, ◌∙◌}
 use Rattle.std.proofs.Math.Seq.{take-append_seam}
 use Rattle.state.specs.Maps.{Text}
 use Rattle.fields.specs.Format.{Malformed, Res, ok, bad, bind, check, read_text, after, rows, Field, text, ◌▹◌, El, dec, enc_text}
 use Rattle.fields.proofs.FormatLaws.{never, bind_ok, text-shape}
-use Rattle.fields.specs.Codes.{Code, codes, walk, forget}
+use Rattle.fields.specs.declared.Code.{Code}
+use Rattle.fields.specs.Codes.{codes, walk, forget}
 use Rattle.fields.proofs.CodeLaws.{walk-codes, bind-same}
 use Rattle.fields.specs.Walks.{Rest, Leaves}
 use Rattle.fields.proofs.WalkLaws.{rest-is, rest_all, rest_trans, walk-leaves}
@@ -46,12 +46,12 @@ pub walk_rows-is : (n : ℕ) (f : Field) (k : ℕ) (p : Option Text) (s : List �
 unfolding walk_rows rows
 walk_rows-is n f zero p s = refl
 walk_rows-is n f (suc k) p s =
-    ap (λ (m : Res (Unit {0})). bind m (λ _ r. check (after p (text_here s)) Malformed (walk_rows (codes (text n ▹ f)) k (some (text_here s)) r))) (walk-codes (text n ▹ f) s)
+    ap (λ (m : Res (Unit {0})). bind m (λ _ r. check (after p (text_here s)) Malformed (walk_rows (codes (text n ▹ f)) k (Some (text_here s)) r))) (walk-codes (text n ▹ f) s)
     ∙ bind-forget (dec (text n ▹ f) s) _
     ∙ bind-same (dec (text n ▹ f) s) _ _ (λ v r h.
-    ap (λ (t : Text). check (after p t) Malformed (walk_rows (codes (text n ▹ f)) k (some t) r)) (row-text n f s v r h)
-    ∙ ap (check (after p v.0) Malformed) (walk_rows-is n f k (some v.0) r)
-    ∙ forget-row (after p v.0) (rows (dec (text n ▹ f)) (λ v. v.0) k (some v.0) r) v)
+    ap (λ (t : Text). check (after p t) Malformed (walk_rows (codes (text n ▹ f)) k (Some t) r)) (row-text n f s v r h)
+    ∙ ap (check (after p v.0) Malformed) (walk_rows-is n f k (Some v.0) r)
+    ∙ forget-row (after p v.0) (rows (dec (text n ▹ f)) (λ v. v.0) k (Some v.0) r) v)
     ∙ sym (forget-bind (dec (text n ▹ f) s) _)
 
 check-leaves : (s r : List ℕ) (b : Bool) (m : Res (Unit {0})) → Rest s r → Leaves r m → Leaves s (check b Malformed m)
@@ -61,8 +61,8 @@ check-leaves s r false m a l = record { rest = λ v t h. absurd (never Malformed
 pub walk_rows-leaves : (cs : List Code) (n : ℕ) (p : Option Text) (s : List ℕ) → Leaves s (walk_rows cs n p s)
 unfolding walk_rows
 walk_rows-leaves cs zero p s = record { rest = λ v r h. let q : s ≡ r = cc in rest-is q (rest_all s) }
-walk_rows-leaves cs (suc n) p s = go (walk 0 cs s) (walk-leaves 0 cs s) (λ r. walk_rows-leaves cs n (some (text_here s)) r)
+walk_rows-leaves cs (suc n) p s = go (walk 0 cs s) (walk-leaves 0 cs s) (λ r. walk_rows-leaves cs n (Some (text_here s)) r)
   where
-    go : (m : Res (Unit {0})) → Leaves s m → ((r : List ℕ) → Leaves r (walk_rows cs n (some (text_here s)) r)) → Leaves s (bind m (λ _ r. check (after p (text_here s)) Malformed (walk_rows cs n (some (text_here s)) r)))
+    go : (m : Res (Unit {0})) → Leaves s m → ((r : List ℕ) → Leaves r (walk_rows cs n (Some (text_here s)) r)) → Leaves s (bind m (λ _ r. check (after p (text_here s)) Malformed (walk_rows cs n (Some (text_here s)) r)))
     go (ok u r) l f = check-leaves s r (after p (text_here s)) _ (l.rest u r refl) (f r)
     go (bad e) l f = record { rest = λ v r h. absurd (never e v r h) }

@@ -1,20 +1,23 @@
 -- A walk over a slice from a position: where it ends, or the first fault.
-use Rattle.std.specs.Prelude.{ℕ, zero, suc, ◌+◌, ◌-◌, ◌≤◌, ◌<◌, min, Bool, true, false, List, [], ◌∷◌, ◌≡◌, refl, length, drop, leb}
-use Rattle.std.proofs.Common.{arith, sym, ap, ◌∙◌, length-drop, drop_of_length-le, drop-drop, leb-true, leb-false}
-use Rattle.std.proofs.Math.Option.{Option}
-use Rattle.state.specs.Maps.{Text}
+use Rattle.std.specs.Prelude.{ℕ, zero, suc, ◌+◌, ◌-◌, ◌≤◌, ◌<◌, min, Bool, true, false, List, [], ◌∷◌, ◌≡◌, refl, length, take, drop, leb, Option, Ok, Err}
+use Rattle.std.proofs.Common.{arith, sym, ap, ◌∙◌, length-drop, take_all, drop_of_length-le, drop-drop, leb-true, leb-false}
 use Rattle.fields.specs.Format.{Malformed, Res, ok, bad, bind, many, read_kind, read_text, rows, itself, read_set}
 use Rattle.fields.proofs.FormatLaws.{never}
-use Rattle.fields.specs.Codes.{Code, a_number, a_kind, a_text, a_set, maybe, read_flag, step, advance, walk, hop, hops, hop_set}
+use Rattle.fields.specs.Codes.{read_flag, step, advance, walk, hop, hops, hop_set}
 use Rattle.fields.proofs.CodeLaws.{many-rest, kind-rest, text-rest, texts_rest, set_rest}
-use Rattle.fields.specs.declared.Walk.TheVariants.{End, Fault}
-use Rattle.fields.specs.declared.Step.TheVariants.{Next, Stop}
-use Rattle.fields.specs.Walks.{Ended, Leaves, Rest, Stepped, place_of, step_of, walk_of}
+use Rattle.fields.specs.declared.Code.{Code}
+use Rattle.fields.specs.declared.Hop.{Hop}
+use Rattle.fields.specs.declared.Code.TheVariants.{Number, Kind, Text, Keys, Maybe}
+use Rattle.fields.specs.Walks.{Ended, Leaves, Rest, Stepped, place_of, hop_of, walk_of}
 
 -- ---- places
 
 pub end-at : (s : List ℕ) (e : ℕ) → e ≤ length s → place_of s (drop e s) ≡ e
 end-at s e h = rw length-drop (omega arith)
+
+-- the bytes from a place up to the end
+pub to_end : (s : List ℕ) (e : ℕ) → take (length s - e) (drop e s) ≡ drop e s
+to_end s e = rw (← length-drop e s) (take_all (length (drop e s)) (drop e s) (omega arith))
 
 -- a place past the end is the end
 pub drop-within : (s : List ℕ) (at : ℕ) → drop (min at (length s)) s ≡ drop at s
@@ -74,7 +77,7 @@ kind-leaves s = record { rest = λ v r h. rest-is (kind-rest s v r h) (rest-drop
 pub text-leaves : (n : ℕ) (s : List ℕ) → Leaves s (read_text n s)
 text-leaves n s = record { rest = λ v r h. rest-is (text-rest n s v r h) (hop-rest s) }
 
-pub texts_leaves : (n k : ℕ) (p : Option Text) (s : List ℕ) → Leaves s (rows (read_text n) itself k p s)
+pub texts_leaves : (n k : ℕ) (p : Option (List ℕ)) (s : List ℕ) → Leaves s (rows (read_text n) itself k p s)
 texts_leaves n k p s = record { rest = λ v r h. rest-is (texts_rest n k p s v r h) (hops-rest k s) }
 
 pub set-leaves : (m n : ℕ) (s : List ℕ) → Leaves s (read_set m n s)
@@ -93,11 +96,11 @@ none-leaves s (bad e) l = record { rest = λ v r h. absurd (never e v r h) }
 
 pub step-leaves : (c : Code) (s : List ℕ) → Leaves s (step c s)
 unfolding step
-step-leaves (a_number n) s = none-leaves s (many n s) (many-leaves n s)
-step-leaves a_kind s = none-leaves s (read_kind s) (kind-leaves s)
-step-leaves (a_text n) s = none-leaves s (read_text n s) (text-leaves n s)
-step-leaves (a_set m n) s = none-leaves s (read_set m n s) (set-leaves m n s)
-step-leaves (maybe n) s = flag_leaves n s
+step-leaves (Number n) s = none-leaves s (many n s) (many-leaves n s)
+step-leaves Kind s = none-leaves s (read_kind s) (kind-leaves s)
+step-leaves (Text n) s = none-leaves s (read_text n s) (text-leaves n s)
+step-leaves (Keys m n) s = none-leaves s (read_set m n s) (set-leaves m n s)
+step-leaves (Maybe n) s = flag_leaves n s
 
 pub advance-leaves : (k : ℕ) (c : Code) (s : List ℕ) → Leaves s (advance k c s)
 unfolding advance
@@ -116,25 +119,26 @@ walk-leaves k (c ∷ cs) s = walk-bind s (advance k c s) (λ n r. walk n cs r) (
 rest-low : (s : List ℕ) (p : ℕ) (r : List ℕ) → p ≤ length s → Rest (drop p s) r → p ≤ place_of s r
 rest-low s p r h a = let l : length r ≡ length (drop p s) - a.bytes = ap length a.is ∙ length-drop a.bytes (drop p s) in omega (arith, length-drop p s)
 
-pub ended : {A : Type 0} (s : List ℕ) (p e : ℕ) (m : Res A) → p ≤ length s → Leaves (drop p s) m → walk_of s m ≡ End e → Ended s m p e
+pub ended : {A : Type 0} (s : List ℕ) (p e : ℕ) (m : Res A) → p ≤ length s → Leaves (drop p s) m → walk_of s m ≡ Ok e → Ended s m p e
 ended s p e (bad x) h l q = let z : ◌≡◌ {A = ℕ} 0 1 = cc in absurd (omega arith)
 ended s p e (ok v r) h l q =
     let a : Rest (drop p s) r = l.rest v r refl in
     let z : place_of s r ≡ e = cc in
     record { v = v; is = ap (ok v) (sym (rest-place (rest_trans (rest-drop p s) a)) ∙ ap (λ (j : ℕ). drop j s) z); low = rw z at (rest-low s p r h a); high = omega arith }
 
-pub faulted : {A : Type 0} (s : List ℕ) (m : Res A) (x : ℕ) → walk_of s m ≡ Fault x → m ≡ bad x
+pub faulted : {A : Type 0} (s : List ℕ) (m : Res A) (x : ℕ) → walk_of s m ≡ Err x → m ≡ bad x
 faulted s (bad y) x q = let e : y ≡ x = cc in ap bad e
 faulted s (ok v r) x q = let z : ◌≡◌ {A = ℕ} 0 1 = cc in absurd (omega arith)
 
-pub stepped : (s : List ℕ) (p e n : ℕ) (m : Res ℕ) → p ≤ length s → Leaves (drop p s) m → step_of s m ≡ Next e n → Stepped s m p e n
-stepped s p e n (bad x) h l q = let z : ◌≡◌ {A = ℕ} 0 1 = cc in absurd (omega arith)
-stepped s p e n (ok k r) h l q =
+pub stepped : (s : List ℕ) (p : ℕ) (h : Hop) (m : Res ℕ) → p ≤ length s → Leaves (drop p s) m → hop_of s m ≡ Ok h → Stepped s m p h.at h.over
+stepped s p h (bad x) b l q = let z : ◌≡◌ {A = ℕ} 0 1 = cc in absurd (omega arith)
+stepped s p h (ok k r) b l q =
     let a : Rest (drop p s) r = l.rest k r refl in
-    let z : place_of s r ≡ e = cc in
-    let w : k ≡ n = cc in
-    record { is = ap (λ (j : ℕ). ok j r) w ∙ ap (ok n) (sym (rest-place (rest_trans (rest-drop p s) a)) ∙ ap (λ (j : ℕ). drop j s) z); high = omega arith }
+    let e : ◌≡◌ {A = Hop} (record { at = place_of s r; over = k }) h = cc in
+    let z : place_of s r ≡ h.at = ap (λ (h : Hop). h.at) e in
+    let w : k ≡ h.over = ap (λ (h : Hop). h.over) e in
+    record { is = ap (λ (j : ℕ). ok j r) w ∙ ap (ok h.over) (sym (rest-place (rest_trans (rest-drop p s) a)) ∙ ap (λ (j : ℕ). drop j s) z); high = omega arith }
 
-pub stopped : (s : List ℕ) (m : Res ℕ) (x : ℕ) → step_of s m ≡ Stop x → m ≡ bad x
+pub stopped : (s : List ℕ) (m : Res ℕ) (x : ℕ) → hop_of s m ≡ Err x → m ≡ bad x
 stopped s (bad y) x q = let e : y ≡ x = cc in ap bad e
 stopped s (ok v r) x q = let z : ◌≡◌ {A = ℕ} 0 1 = cc in absurd (omega arith)

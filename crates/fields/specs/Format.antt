@@ -1,7 +1,6 @@
 -- The kinds of fields, the values that each holds, how a value is written, and what reading finds.
 -- A record is one field and then the rest (`▹`). A set and a table are both `rows`: items in strictly ascending order of their keys.
-use Rattle.std.specs.Prelude.{ℕ, zero, suc, ◌^◌, ◌≤◌, ◌<◌, Bool, true, false, ◌&&◌, List, [], ◌∷◌, ◌++◌, ◌≡◌, length, take, drop, leb}
-use Rattle.std.proofs.Math.Option.{Option, none, some}
+use Rattle.std.specs.Prelude.{ℕ, zero, suc, ◌^◌, ◌≤◌, ◌<◌, Bool, true, false, ◌&&◌, List, [], ◌∷◌, ◌++◌, ◌≡◌, length, take, drop, leb, Option, None, Some}
 use Rattle.text.specs.Utf8.{utf8}
 use Rattle.parts.specs.Digits.{digits, value, Bytes}
 use Rattle.state.specs.Maps.{Text, before}
@@ -55,13 +54,13 @@ read_kind (suc zero ∷ s) = ok Manifest s
 read_kind (suc (suc k) ∷ s) = bad Malformed
 
 unfoldable pub enc_option : {A : Type 0} → (A → List ℕ) → Option A → List ℕ
-enc_option write none = 0 ∷ []
-enc_option write (some v) = 1 ∷ write v
+enc_option write None = 0 ∷ []
+enc_option write (Some v) = 1 ∷ write v
 
 unfoldable pub read_option : {A : Type 0} → (List ℕ → Res A) → List ℕ → Res (Option A)
 read_option item [] = bad Malformed
-read_option item (zero ∷ s) = ok none s
-read_option item (suc zero ∷ s) = bind (item s) (λ v r. ok (some v) r)
+read_option item (zero ∷ s) = ok None s
+read_option item (suc zero ∷ s) = bind (item s) (λ v r. ok (Some v) r)
 read_option item (suc (suc k) ∷ s) = bad Malformed
 
 -- ---- texts: at one text first its limit, then an early end, then UTF-8
@@ -75,13 +74,13 @@ read_text n s = bind (byte s) (λ k r. check (leb k n) OverLimit (bind (many k r
 -- ---- rows: n items, each with a key after the one before it
 
 unfoldable pub after : Option Text → Text → Bool
-after none k = true
-after (some p) k = before p k
+after None k = true
+after (Some p) k = before p k
 
 unfoldable pub rows : {A : Type 0} → (List ℕ → Res A) → (A → Text) → ℕ → Option Text → List ℕ → Res (List A)
 rows item key zero p s = ok [] s
 rows item key (suc n) p s =
-    bind (item s) (λ v r. check (after p (key v)) Malformed (bind (rows item key n (some (key v)) r) (λ vs r. ok (v ∷ vs) r)))
+    bind (item s) (λ v r. check (after p (key v)) Malformed (bind (rows item key n (Some (key v)) r) (λ vs r. ok (v ∷ vs) r)))
 
 unfoldable pub all : {A : Type 0} → (A → List ℕ) → List A → List ℕ
 all write [] = []
@@ -91,7 +90,7 @@ abbrev pub itself : Text → Text
 itself t = t
 
 unfoldable pub read_set : ℕ → ℕ → List ℕ → Res (List Text)
-read_set most n s = bind (byte s) (λ k r. check (leb k most) OverLimit (rows (read_text n) itself k none r))
+read_set most n s = bind (byte s) (λ k r. check (leb k most) OverLimit (rows (read_text n) itself k None r))
 
 -- ---- the fields
 
@@ -136,7 +135,7 @@ dec (f ▹ g) s = bind (dec f s) (λ v r. bind (dec g r) (λ w r. ok (v, w) r))
 
 unfoldable pub ascends : {A : Type 0} → (A → Text) → Option Text → List A → Bool
 ascends key p [] = true
-ascends key p (v ∷ vs) = after p (key v) && ascends key (some (key v)) vs
+ascends key p (v ∷ vs) = after p (key v) && ascends key (Some (key v)) vs
 
 pub record TextOk (n : ℕ) (t : Text) : Type 0 where
   pub fits : length t ≤ n
@@ -150,11 +149,11 @@ Every P (v ∷ vs) = P v × Every P vs
 pub record Rows {A : Type 0} (P : A → Type 0) (key : A → Text) (most : ℕ) (vs : List A) : Type 0 where
   pub count : length vs ≤ most
   pub each : Every P vs
-  pub ascending : ascends key none vs ≡ true
+  pub ascending : ascends key None vs ≡ true
 
 abbrev pub Maybe : {A : Type 0} → (A → Type 0) → Option A → Type 0
-Maybe P none = Unit {0}
-Maybe P (some v) = P v
+Maybe P None = Unit {0}
+Maybe P (Some v) = P v
 
 abbrev pub Within : (f : Field) → El f → Type 0
 Within nothing v = Unit {0}

@@ -1,28 +1,26 @@
 -- A walk over a slice from a position: where it ends, or the first fault.
-use Rattle.std.specs.Prelude.{ℕ, ◌-◌, ◌≤◌, List, ◌≡◌, length, take, drop}
+use Rattle.std.specs.Prelude.{ℕ, ◌-◌, ◌≤◌, List, ◌≡◌, length, take, drop, Result, Ok, Err}
 use Rattle.fields.specs.Format.{Res, ok, bad}
-use Rattle.fields.specs.declared.Walk.{Walk}
-use Rattle.fields.specs.declared.Walk.TheVariants.{End, Fault}
-use Rattle.fields.specs.declared.Step.{Step}
-use Rattle.fields.specs.declared.Step.TheVariants.{Next, Stop}
+use Rattle.fields.specs.declared.Hop.{Hop}
 
 -- where the rest r of s starts
 abbrev pub place_of : List ℕ → List ℕ → ℕ
 place_of s r = length s - length r
 
-abbrev pub walk_of : {A : Type 0} → List ℕ → Res A → Walk
-walk_of s (ok v r) = End (place_of s r)
-walk_of s (bad e) = Fault e
+-- the value that was read, or the first fault
+abbrev pub value_of : {A : Type 0} → Res A → Result A ℕ
+value_of (ok v r) = Ok v
+value_of (bad e) = Err e
+
+-- where the rest starts, or the first fault
+abbrev pub walk_of : {A : Type 0} → List ℕ → Res A → Result ℕ ℕ
+walk_of s (ok v r) = Ok (place_of s r)
+walk_of s (bad e) = Err e
 
 -- one code: the place after it, and how many codes are passed over
-abbrev pub step_of : List ℕ → Res ℕ → Step
-step_of s (ok n r) = Next (place_of s r) n
-step_of s (bad e) = Stop e
-
--- a field is one code, and none after it is passed over
-abbrev pub onward : Walk → Step
-onward (End p) = Next p 0
-onward (Fault e) = Stop e
+abbrev pub hop_of : List ℕ → Res ℕ → Result Hop ℕ
+hop_of s (ok n r) = Ok (record { at = place_of s r; over = n })
+hop_of s (bad e) = Err e
 
 -- the bytes from a up to e
 abbrev pub part : List ℕ → ℕ → ℕ → List ℕ

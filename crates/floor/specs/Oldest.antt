@@ -27,7 +27,7 @@ abbrev after_version : Field
 after_version = u64 ▹ name ▹ name ▹ u64 ▹ closure ▹ u64 ▹ position
 
 pub version-row : (t : SnapshotLeaseToken) (r : List ℕ) → t.snapshot_version < 256 ^ 8 → value (take 8 (skip 0 (codes before_version) (enc lease (lease_parts t) ++ r))) ≡ t.snapshot_version
-unfolding enc codes
+unfolding enc
 version-row t r h =
     let b = enc after_version (lease_parts t).1.1.1 in
     let e : enc lease (lease_parts t) ++ r ≡ enc (name ▹ name) (t.lease_id, t.tenant_id) ++ (digits 8 t.snapshot_version ++ (b ++ r)) = simp append_assoc in

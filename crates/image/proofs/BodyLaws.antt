@@ -1,7 +1,6 @@
 -- The laws of a body: what is written is read back, and what is read is as it would be written.
-use Rattle.std.specs.Prelude.{ℕ, Bool, true, ◌&&◌, List, [], ◌∷◌, ◌++◌, ◌≡◌, refl, length, leb, eqb}
+use Rattle.std.specs.Prelude.{ℕ, Bool, true, ◌&&◌, List, [], ◌∷◌, ◌++◌, ◌≡◌, refl, length, leb, eqb, None}
 use Rattle.std.proofs.Common.{arith, sym, le-leb, eq-eqb, leb-true, eqb-true}
-use Rattle.std.proofs.Math.Option.{none}
 use Rattle.parts.specs.Digits.{Bytes}
 use Rattle.parts.specs.DigitLaws.{bytes-append}
 use Rattle.fields.specs.Format.{Malformed, OverLimit, ok, enc, dec, Within}
@@ -12,7 +11,7 @@ pub body_enc : (b : Body) (v : Held b) (rest : List ℕ) → Fits b v → read b
 unfolding read count write
 body_enc (one k f) v rest h = rw (eq-eqb k k refl) (dec-enc f v rest h)
 body_enc (table m n f) v rest h =
-    rw (le-leb (length v) m h.count, rows-enc (dec (row n f)) (enc (row n f)) (Within (row n f)) id (dec-enc (row n f)) v none rest h.each h.ascending)
+    rw (le-leb (length v) m h.count, rows-enc (dec (row n f)) (enc (row n f)) (Within (row n f)) id (dec-enc (row n f)) v None rest h.each h.ascending)
 
 pub record BodyOk (b : Body) (k : ℕ) (s : List ℕ) (v : Held b) (r : List ℕ) : Type 0 where
   pub is : s ≡ write b v ++ r
@@ -27,7 +26,7 @@ body_ok (one a f) k s v r b h =
     record { is = i; its_count = sym (eqb-true k a c); fits = w }
 body_ok (table m n f) k s v r b h =
     let (c, h₁) = check-ok (leb k m) OverLimit _ v r h in
-    let w = rows_ok (dec (row n f)) (enc (row n f)) (Within (row n f)) id (enc-dec (row n f)) k none s v r b h₁ in
+    let w = rows_ok (dec (row n f)) (enc (row n f)) (Within (row n f)) id (enc-dec (row n f)) k None s v r b h₁ in
     let l : length v ≡ k = w.count in
     record { is = w.is; its_count = l; fits = record { count = omega (arith, leb-true k m c); each = w.each; ascending = w.ascending } }
 

@@ -1,13 +1,11 @@
 -- The front of an image, up to its tables, from the contents: version, entries, numbers, and the two options. Where contents
 -- show a state, the front and the bytes of the state's tables are its image in the form that is written.
-use Rattle.std.specs.Prelude.{ℕ, suc, ◌+◌, ◌≤◌, Bool, true, false, not, ◌&&◌, ◌||◌, ◌≡◌, refl, leb, ltb, replicate, take}
+use Rattle.std.specs.Prelude.{ℕ, suc, ◌+◌, ◌≤◌, Bool, true, false, not, ◌&&◌, ◌||◌, ◌≡◌, refl, leb, ltb, take, Option, None, Some}
 use native.Mathlib.Omega.{arith}
 use mathlib.Core.List.{List, [], ◌∷◌, ◌++◌, append_assoc, append-nil}
-use Rattle.std.proofs.Math.Option.{Option, none, some}
 use Rattle.std.proofs.Math.Path.{sym, ap}
-use Rattle.std.proofs.Common.{◌∙◌, subst, length-take, lt-ltb, le-ltb, leb-true, leb-false}
+use Rattle.std.proofs.Common.{◌∙◌, length-take, lt-ltb, le-ltb, leb-true, leb-false}
 use Rattle.std.proofs.Math.ListN.{length, drop, length-append}
-use Rattle.std.proofs.lemmas.List.{length-replicate}
 use Rattle.parts.specs.Digits.{digits}
 use Rattle.parts.specs.DigitLaws.{length_digits}
 use Rattle.parts.specs.Over.{Wrote, over, then}
@@ -20,17 +18,15 @@ use Rattle.image.specs.Layout.{TableIn, written, first_in, mark, bodies, state_p
 use Rattle.image.specs.ImageParts.{names_in, tables_named, tables_of, joined, Measure, measures, entries_from, numbers_of, before_window, words, scalars_bytes, header_bytes, header_measures}
 use Rattle.image.proofs.ImagePartLaws.{image_is}
 use Rattle.image.proofs.ImagePartLaws.{rows-count, length-entries, scalars-is}
-use Rattle.image.specs.Opened.{number_of, numbers_in, root_start, root_width, measures_in, Shows}
-use Rattle.image.specs.declared.MaybeNumber.{MaybeNumber}
+use Rattle.image.specs.Opened.{numbers_in, root_bytes, root_start, root_width, measures_in, Shows}
 use Rattle.image.specs.declared.Table.{Table}
 use Rattle.image.specs.declared.Scalars.{Scalars}
 use Rattle.image.specs.declared.Contents.{Contents}
-use Rattle.image.specs.declared.Front.{Front}
-use Rattle.image.specs.Front.{Small, contents_over_limit, front_in, front_of, head_of, over_any, scalars_front, scalars_size, window_flag, window_value, window_width}
+use Rattle.image.specs.Front.{Small, contents_over_limit, front_of, head_of, over_any, scalars_front, scalars_size, window_width}
 
-pub window_narrow : (w : MaybeNumber) → window_width w ≤ 8
-window_narrow MaybeNumber.NoNumber = omega arith
-window_narrow (MaybeNumber.Number n) = omega arith
+pub window_narrow : (w : Option ℕ) → window_width w ≤ 8
+window_narrow None = omega arith
+window_narrow (Some n) = omega arith
 
 abbrev pub front_measures : Contents → List Measure
 front_measures c = record { size = scalars_size c.scalars; count = mark written.scalars } ∷ measures_in c.tables
@@ -41,15 +37,10 @@ length-measures (t ∷ ts) = ap suc (length-measures ts)
 
 -- ---- WHERE CONTENTS SHOW A STATE
 
-window_bytes : (o : Option ℕ) (w : MaybeNumber) (r : List ℕ) → w ≡ number_of o → digits 1 (window_flag w) ++ (digits (window_width w) (window_value w) ++ r) ≡ enc_option (digits 8) o ++ r
+pub window-size : (w : Option ℕ) → length (enc_option (digits 8) w) ≡ 1 + window_width w
 unfolding enc_option digits
-window_bytes none w r e = rw e
-window_bytes (some n) w r e = rw e
-
-window-size : (o : Option ℕ) (w : MaybeNumber) → w ≡ number_of o → 1 + window_width w ≡ length (enc_option (digits 8) o)
-unfolding enc_option digits
-window-size none w e = rw e
-window-size (some n) w e = rw e
+window-size None = refl
+window-size (Some n) = refl
 
 more_than : (m n : ℕ) → ltb m n ≡ not (leb n m)
 more_than m n = go (leb n m) refl
@@ -68,15 +59,16 @@ limits_are [] t = refl
 limits_are (n ∷ ts) t =
     (λ i. more_than n.most (sym (rows-count n.name t) i) i || limits_are ts t i) ∙ not_both (leb _ n.most) (roomy (table_bodies ts) (rows_in ts t))
 
-six_seams : (a b c d e f : List ℕ) → ((((a ++ b) ++ c) ++ d) ++ e) ++ f ≡ a ++ (b ++ (c ++ (d ++ (e ++ f))))
-six_seams a b c d e f = simp append_assoc
+four_seams : (a b c d : List ℕ) → ((a ++ b) ++ c) ++ d ≡ a ++ (b ++ (c ++ d))
+four_seams a b c d = simp append_assoc
 
 module _ {x : List ℕ} {c : Contents} {t : State} (sh : Shows x c t) where
   size_is : scalars_size c.scalars ≡ length (scalars_bytes written t)
   unfolding words
   size_is =
       let l = ap length (sym (append-nil (scalars_bytes written t)) ∙ scalars-is written.scalars t []) in
-      let w = window-size t.retention_window c.scalars.retention_window sh.window in
+      let w = window-size t.retention_window in
+      let v = ap window_width sh.window in
       let r = sh.root_size in
       sym (l ∙ simp (length-append, length_digits) (omega arith))
 
@@ -99,11 +91,8 @@ module _ {x : List ℕ} {c : Contents} {t : State} (sh : Shows x c t) where
   scalars-front : scalars_front x c.scalars ≡ scalars_bytes written t
   scalars-front =
       let n = c.scalars in
-      six_seams (words (take before_window (numbers_in n))) _ _ _ _ _
-      ∙ (λ i. words (take before_window (sh.numbers i)) ++ (digits 1 (window_flag n.retention_window) ++ (digits (window_width n.retention_window) (window_value n.retention_window)
-      ++ (words (drop before_window (sh.numbers i)) ++ sh.root i))))
-      ∙ ap (λ (l : List ℕ). words (take before_window (numbers_of t)) ++ l)
-      (window_bytes t.retention_window n.retention_window (words (drop before_window (numbers_of t)) ++ enc_option enc_text t.collection_root) sh.window)
+      four_seams (words (take before_window (numbers_in n))) (enc_option (digits 8) n.retention_window) (words (drop before_window (numbers_in n))) (root_bytes x n.collection_root)
+      ∙ (λ i. words (take before_window (sh.numbers i)) ++ (enc_option (digits 8) (sh.window i) ++ (words (drop before_window (sh.numbers i)) ++ sh.root i)))
       ∙ scalars_are
 
   front-is : front_of x c ≡ header_bytes written t ++ scalars_bytes written t
@@ -131,38 +120,31 @@ pub length-scalars : (x : List ℕ) (n : Scalars) → length (scalars_front x n)
 unfolding words
 length-scalars x n =
     let w = window_narrow n.retention_window in
+    let v = window-size n.retention_window in
     let r = length-take (root_width n.collection_root) (drop (root_start n.collection_root) x) in
     simp (length-append, length_digits) (omega arith)
 
 -- ---- LAID AT THE HEAD OF AN ARRAY
-module _ (x : List ℕ) (c : Contents) (small : Small c) where
+module _ (x : List ℕ) (c : Contents) (small : Small c) (six : length c.tables ≡ 6) where
   abbrev H : List ℕ
   H = head_of c (scalars_size c.scalars)
 
   abbrev S : List ℕ
   S = scalars_front x c.scalars
 
-  front_fits : length (front_of x c) ≤ 232
+  pub front_fits : length (front_of x c) ≤ 232
   front_fits =
-      let a = length-head c (scalars_size c.scalars) small.six in
+      let a = length-head c (scalars_size c.scalars) six in
       let b = length-scalars x c.scalars in
       let l = length-append H S in
       omega (arith, small.root)
 
-  pub laid-front : {d₁ d₂ : List ℕ} {p r : ℕ} (k : ℕ) → k ≡ scalars_size c.scalars → Wrote (replicate 232 0) 0 (head_of c k) p d₁ → Wrote d₁ p S r d₂ → record { bytes = d₂; len = r } ≡ front_in x c
-  laid-front {d₁} {d₂} {p} {r} k q w v =
-      let z = length-replicate {A = ℕ} 232 0 in
-      let l = length-append H S in
-      let w' : Wrote (replicate 232 0) 0 H p d₁ = subst (λ (k : ℕ). Wrote (replicate 232 0) 0 (head_of c k) p d₁) q w in
-      let u : Wrote (replicate 232 0) 0 (H ++ S) r d₂ = then w' v (omega (arith, front_fits)) in
-      let n : r ≡ length (H ++ S) = u.place ∙ omega arith in
-      λ i. record { bytes = u.is i; len = n i }
-
   -- what stands there
-  pub front-held : (f : Front) → f ≡ front_in x c → (f.len ≤ length f.bytes) × (take f.len f.bytes ≡ front_of x c)
+  pub laid-front : {d d₁ d₂ : List ℕ} {p r : ℕ} → Wrote d 0 H p d₁ → Wrote d₁ p S r d₂ → length d ≡ 232 → take r d₂ ≡ front_of x c
   unfolding over
-  front-held f e =
-      let b : f.bytes ≡ front_of x c ++ drop (0 + length (front_of x c)) (replicate 232 0) = ap (λ (f : Front). f.bytes) e in
-      let n : f.len ≡ length (front_of x c) = ap (λ (f : Front). f.len) e in
-      let l = ap length b ∙ length-append (front_of x c) (drop (0 + length (front_of x c)) (replicate 232 0)) in
-      (omega arith, ap (take f.len) b ∙ take_at (front_of x c) (drop (0 + length (front_of x c)) (replicate 232 0)) f.len (sym n))
+  laid-front {d} {d₁} {d₂} {p} {r} w v n =
+      let l = length-append H S in
+      let u : Wrote d 0 (H ++ S) r d₂ = then w v (omega (arith, front_fits)) in
+      let p = u.place in
+      let m : length (H ++ S) ≡ r = omega arith in
+      ap (take r) u.is ∙ take_at (H ++ S) (drop (0 + length (H ++ S)) d) r m

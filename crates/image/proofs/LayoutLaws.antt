@@ -3,9 +3,8 @@
 use Prim.Native.Nat.{ℕ, ◌^◌, ◌≤◌, ◌<◌}
 use Rattle.std.proofs.Common.{arith, ◌∙◌, take_at, drop_at}
 use Rattle.std.proofs.Math.Path.{◌≡◌, refl, sym, ap, subst}
-use Rattle.std.specs.Prelude.{Bool, true, false, cond, leb, take, drop}
+use Rattle.std.specs.Prelude.{Bool, true, false, cond, leb, take, drop, Option, None, Some}
 use mathlib.Core.List.{List, [], ◌∷◌, ◌++◌, append-nil, append_assoc}
-use Rattle.std.proofs.Math.Option.{Option, none, some}
 use Rattle.std.proofs.Math.ListN.{length}
 use borrow.Author.Tests.{le-leb, leb-true, eq-eqb, ne_eqb, eqb-true}
 use Rattle.state.specs.Maps.{Text, Map, Entry, ◌⟼◌, key_of, value_of}
@@ -32,7 +31,7 @@ pub record Sound (f : Form) : Type 0 where
   pub sizes : 65536 ≤ 256 ^ f.widths.size
   pub first_small : first_in f < 256 ^ f.widths.place
 
-cond_some : {A : Type 0} (b : Bool) (o : Option A) (v : A) → cond b o none ≡ some v → (b ≡ true) × (o ≡ some v)
+cond_some : {A : Type 0} (b : Bool) (o : Option A) (v : A) → cond b o None ≡ Some v → (b ≡ true) × (o ≡ Some v)
 cond_some true o v h = (refl, h)
 cond_some false o v h = let z : ◌≡◌ {A = ℕ} 0 1 = cc in absurd (omega arith)
 
@@ -45,7 +44,7 @@ number-second k n m x y z h =
     ∙ value-digits k m h
 
 module _ (f : Form) (sound : Sound f) where
-  held_some : (r : Res (ℕ × Helds (bodies_in f))) (s : State) → held_in f (whole r) ≡ some s → (x : ℕ × Helds (bodies_in f)) × (r ≡ ok x []) × (state_in f x ≡ s)
+  held_some : (r : Res (ℕ × Helds (bodies_in f))) (s : State) → held_in f (whole r) ≡ Some s → (x : ℕ × Helds (bodies_in f)) × (r ≡ ok x []) × (state_in f x ≡ s)
   unfolding whole
   held_some (ok x []) s h = (x, refl, cc)
   held_some (ok x (b ∷ r)) s h = let z : ◌≡◌ {A = ℕ} 0 1 = cc in absurd (omega arith)
@@ -56,19 +55,19 @@ module _ (f : Form) (sound : Sound f) where
   image-ok s k = record { version = k.fitting.version; fits = k.fitting.fits; place-fits = omega (arith, k.size, sound.places); size_fits = omega (arith, k.size, sound.sizes) }
 
   -- a state is read back from its image
-  pub reads_back_in : (s : State) → FormedIn f s → decode_in f (encode_in f s) ≡ some s
+  pub reads_back_in : (s : State) → FormedIn f s → decode_in f (encode_in f s) ≡ Some s
   unfolding decode_in encode_in whole
   reads_back_in s k =
       let d : decode f.widths (bodies_in f) (encode f.widths (bodies_in f) (parts_in f s)) ≡ ok (parts_in f s) [] =
       rw append-nil at (decode-encode f.widths (bodies_in f) (parts_in f s) [] sound.counts (image-ok s k)) in
-      rw (le-leb (length (encode f.widths (bodies_in f) (parts_in f s))) longest k.size, d) (ap some k.fitting.whole)
+      rw (le-leb (length (encode f.widths (bodies_in f) (parts_in f s))) longest k.size, d) (ap Some k.fitting.whole)
 
   pub bytes_in : (s : State) → FormedIn f s → Bytes (encode_in f s)
   unfolding encode_in
   bytes_in s k = bytes-encode f.widths (bodies_in f) (parts_in f s) sound.counts sound.smalls (image-ok s k)
 
   -- what is read was written so: a state has one image in a form
-  pub one_image_in : (b : List ℕ) (s : State) → Bytes b → decode_in f b ≡ some s → (encode_in f s ≡ b) × FormedIn f s
+  pub one_image_in : (b : List ℕ) (s : State) → Bytes b → decode_in f b ≡ Some s → (encode_in f s ≡ b) × FormedIn f s
   unfolding decode_in encode_in
   one_image_in b s k h =
       let (l, h₁) = cond_some (leb (length b) longest) (held_in f (whole (decode f.widths (bodies_in f) b))) s h in
@@ -128,12 +127,12 @@ not_in f g b p d h =
     let z = eqb-true _ _ h in
     ne_eqb _ _ (λ y. d (sym y ∙ ap (λ (k : ℕ). value (take k (drop version_width b))) p ∙ z))
 
-read_other : (f : Form) (o : Option State) (r : Read) → read_as f o ≡ some r → (r.form ≡ f) × (o ≡ some r.state)
-read_other f none r h = let z : ◌≡◌ {A = ℕ} 0 1 = cc in absurd (omega arith)
-read_other f (some s) r h = (cc, cc)
+read_other : (f : Form) (o : Option State) (r : Read) → read_as f o ≡ Some r → (r.form ≡ f) × (o ≡ Some r.state)
+read_other f None r h = let z : ◌≡◌ {A = ℕ} 0 1 = cc in absurd (omega arith)
+read_other f (Some s) r h = (cc, cc)
 
 -- a state that has an image in one of the forms is read back from it, and so is the form
-pub reads_back_any : {f : Form} {fs : List Form} → In f fs → Sounds fs → Distinct fs → (s : State) → FormedIn f s → read_in fs (encode_in f s) ≡ some (record { form = f; state = s })
+pub reads_back_any : {f : Form} {fs : List Form} → In f fs → Sounds fs → Distinct fs → (s : State) → FormedIn f s → read_in fs (encode_in f s) ≡ Some (record { form = f; state = s })
 unfolding read_in
 reads_back_any {f} here so d s k = rw (is_in_own f so.0 s, reads_back_in f so.0 s k) refl
 reads_back_any {f} (there {g} i) so d s k =
@@ -146,12 +145,12 @@ pub record Found (fs : List Form) (b : List ℕ) (r : Read) : Type 0 where
   pub is : encode_in r.form r.state ≡ b
   pub formed : FormedIn r.form r.state
 
-pub one_image_any : (fs : List Form) → Sounds fs → (b : List ℕ) (r : Read) → Bytes b → read_in fs b ≡ some r → Found fs b r
+pub one_image_any : (fs : List Form) → Sounds fs → (b : List ℕ) (r : Read) → Bytes b → read_in fs b ≡ Some r → Found fs b r
 unfolding read_in
 one_image_any [] so b r k h = let z : ◌≡◌ {A = ℕ} 0 1 = cc in absurd (omega arith)
 one_image_any (f ∷ fs) so b r k h = go (λ q. one_image_any fs so.1 b r k q) (is_in f b) h
   where
-    go : (read_in fs b ≡ some r → Found fs b r) → (t : Bool) → cond t (read_as f (decode_in f b)) (read_in fs b) ≡ some r → Found (f ∷ fs) b r
+    go : (read_in fs b ≡ Some r → Found fs b r) → (t : Bool) → cond t (read_as f (decode_in f b)) (read_in fs b) ≡ Some r → Found (f ∷ fs) b r
     go rest true q =
         let (e, d) = read_other f (decode_in f b) r q in
         let (i, m) = one_image_in f so.0 b r.state k d in
@@ -165,11 +164,11 @@ one_image_any (f ∷ fs) so b r k h = go (λ q. one_image_any fs so.1 b r k q) (
         record { known = there w.known; is = w.is; formed = w.formed }
 
 -- EXACTLY ONE: bytes are the image of one state in one form
-pub only_one : (fs : List Form) → Sounds fs → Distinct fs → (b : List ℕ) (r : Read) → Found fs b r → read_in fs b ≡ some r
+pub only_one : (fs : List Form) → Sounds fs → Distinct fs → (b : List ℕ) (r : Read) → Found fs b r → read_in fs b ≡ Some r
 only_one fs so d b r w = ap (read_in fs) (sym w.is) ∙ reads_back_any w.known so d r.state w.formed
 
 pub same_read : (fs : List Form) → Sounds fs → Distinct fs → (b : List ℕ) (r q : Read) → Found fs b r → Found fs b q → r ≡ q
-same_read fs so d b r q w v = let e : some r ≡ some q = sym (only_one fs so d b r w) ∙ only_one fs so d b q v in cc
+same_read fs so d b r q w v = let e : Some r ≡ Some q = sym (only_one fs so d b r w) ∙ only_one fs so d b q v in cc
 
 -- THE FORMS OF THE SIX TABLES, with any limits: their parts come back
 entry_η : {A : Type 0} (e : Entry A) → key_of e ⟼ value_of e ≡ e
@@ -316,10 +315,10 @@ pub written_known : In written forms
 written_known = here
 
 -- THE THEOREMS: a state that has an image is read back from it, with its form
-pub reads-back : (s : State) → Imaged s → read_image (encode_image s) ≡ some (record { form = written; state = s })
+pub reads-back : (s : State) → Imaged s → read_image (encode_image s) ≡ Some (record { form = written; state = s })
 reads-back s k = reads_back_any written_known forms_sound forms_apart s k
 
-pub decodes_back : (s : State) → Imaged s → decode_image (encode_image s) ≡ some s
+pub decodes_back : (s : State) → Imaged s → decode_image (encode_image s) ≡ Some s
 unfolding decode_image
 decodes_back s k = ap state_read (reads-back s k)
 
@@ -327,7 +326,7 @@ pub bytes-image : (s : State) → Imaged s → Bytes (encode_image s)
 bytes-image s k = bytes_in written base_sound s k
 
 -- what is read was written, in one of the forms
-pub one-image : (b : List ℕ) (r : Read) → Bytes b → read_image b ≡ some r → Found forms b r
+pub one-image : (b : List ℕ) (r : Read) → Bytes b → read_image b ≡ Some r → Found forms b r
 one-image b r k h = one_image_any forms forms_sound b r k h
 
 -- and in no other, nor as another state
@@ -340,11 +339,11 @@ pub within-written : (f : Form) (s : State) → In f forms → FormedIn f s → 
 within-written f s here k = k.fitting
 within-written f s (there x) k = elim x [ ]
 
-state_some : (o : Option Read) (s : State) → state_read o ≡ some s → (r : Read) × (o ≡ some r) × (r.state ≡ s)
-state_some none s h = let z : ◌≡◌ {A = ℕ} 0 1 = cc in absurd (omega arith)
-state_some (some r) s h = (r, refl, cc)
+state_some : (o : Option Read) (s : State) → state_read o ≡ Some s → (r : Read) × (o ≡ Some r) × (r.state ≡ s)
+state_some None s h = let z : ◌≡◌ {A = ℕ} 0 1 = cc in absurd (omega arith)
+state_some (Some r) s h = (r, refl, cc)
 
-pub formed-read : (b : List ℕ) (s : State) → Bytes b → decode_image b ≡ some s → Formed s
+pub formed-read : (b : List ℕ) (s : State) → Bytes b → decode_image b ≡ Some s → Formed s
 unfolding decode_image
 formed-read b s k h =
     let (r, e, q) = state_some (read_image b) s h in

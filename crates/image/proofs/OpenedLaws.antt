@@ -1,13 +1,11 @@
 -- Contents of a form and a state hold the state, whatever the form.
 use Prim.Native.Nat.{ℕ, zero, suc, ◌+◌, ◌-◌, ◌≤◌, ◌<◌}
 use native.Mathlib.Omega.{arith}
-use Rattle.std.proofs.Math.Bool.{true, false}
 use mathlib.Core.List.{List, [], ◌∷◌, ◌++◌, append_assoc, append-nil}
-use Rattle.std.proofs.Math.Option.{Option, none, some}
 use Rattle.std.proofs.Math.Path.{◌≡◌, refl, sym, ap}
 use Rattle.std.proofs.Common.{◌∙◌, subst, drop-drop}
 use Rattle.std.proofs.Math.ListN.{length, drop, length-append}
-use Rattle.std.specs.Prelude.{take, get_or}
+use Rattle.std.specs.Prelude.{take, get_or, Option, None, Some}
 use Rattle.std.proofs.Math.Seq.{take-append_seam, drop-append_seam}
 use Rattle.parts.specs.Answer.{longest}
 use Rattle.parts.specs.Digits.{Bytes, digits}
@@ -15,14 +13,13 @@ use Rattle.parts.specs.Gather.{run}
 use Rattle.state.specs.Maps.{Text}
 use Rattle.state.specs.Records.{State}
 use Rattle.fields.specs.Format.{enc_option, enc_text}
-use Rattle.image.specs.Layout.{TableName, Form, forms, first_in, encode_in, Read, read_image, state_read, decode_image, Formed}
+use Rattle.image.specs.Layout.{TableName, Form, forms, first_in, encode_in, Read, read_image, state_read, decode_image}
 use Rattle.image.proofs.LayoutLaws.{In, here, there, one-image, within-written}
 use Rattle.image.specs.ImageParts.{TableBytes, names, names_in, tables_named, tables_of, joined, numbers_of, before_window, words, scalars_bytes, tables_at}
 use Rattle.image.proofs.ImagePartLaws.{at-scalars, at-tables, length-image}
 use Rattle.image.proofs.ImagePartLaws.{scalars-is, next-at}
 use Rattle.image.specs.Opened.{root_of, laid, contents_in, opened_of, root_width, root_bytes, root_text_of, nowhere, Holds, OpenedAs}
 use Rattle.image.specs.declared.Contents.{Contents}
-use Rattle.image.specs.declared.Opened.{Opened}
 
 -- ---- runs
 
@@ -65,7 +62,7 @@ module _ (f : Form) (s : State) (x : List ℕ) (is : encode_in f s ≡ x) where
   length-scalars =
       ap length (sym (append-nil (scalars_bytes f s)) ∙ scalars-is f.scalars s [] ∙ ap (front s) (append-nil (enc_option enc_text s.collection_root)))
 
-  root_some : (t : Text) → s.collection_root ≡ some t → root_bytes x (root_of (tables_at f s) (some t)) ≡ enc_option enc_text (some t)
+  root_some : (t : Text) → s.collection_root ≡ Some t → root_bytes x (root_of (tables_at f s) (Some t)) ≡ enc_option enc_text (Some t)
   unfolding enc_option enc_text digits
   root_some t e =
       let a : List ℕ = front s (1 ∷ []) in
@@ -84,13 +81,13 @@ module _ (f : Form) (s : State) (x : List ℕ) (is : encode_in f s ≡ x) where
   root-here = go s.collection_root refl
     where
       go : (o : Option Text) → s.collection_root ≡ o → root_bytes x (root_of (tables_at f s) o) ≡ enc_option enc_text o
-      go none e = refl
-      go (some t) e = root_some t e
+      go None e = refl
+      go (Some t) e = root_some t e
 
   text_here : (o : Option Text) → s.collection_root ≡ o → root_text_of x (root_of (tables_at f s) o) ≡ o
   unfolding enc_option enc_text digits
-  text_here none e = refl
-  text_here (some t) e =
+  text_here None e = refl
+  text_here (Some t) e =
       let a : List ℕ = front s (1 ∷ length t ∷ []) in
       let h : drop (first_in f) x ≡ a ++ (t ++ joined tables_here) =
       scalars-here ∙ ap (λ (o : Option Text). front s (enc_option enc_text o ++ joined tables_here)) e ∙ front_seam s (1 ∷ length t ∷ []) (t ++ joined tables_here) in
@@ -98,12 +95,12 @@ module _ (f : Form) (s : State) (x : List ℕ) (is : encode_in f s ≡ x) where
       length-scalars ∙ ap (λ (o : Option Text). length (front s (enc_option enc_text o))) e ∙ ap length (front_seam s (1 ∷ length t ∷ []) t) ∙ length-append a t in
       let p : tables_at f s - length t ≡ first_in f + length a = omega arith in
       let d : drop (tables_at f s - length t) x ≡ t ++ joined tables_here = after_seam x a (t ++ joined tables_here) (first_in f) (tables_at f s - length t) h p in
-      ap some (run-to x t (joined tables_here) (tables_at f s - length t) (length t) d refl)
+      ap Some (run-to x t (joined tables_here) (tables_at f s - length t) (length t) d refl)
 
   root_sized : (end : ℕ) (o : Option Text) → 1 + root_width (root_of end o) ≡ length (enc_option enc_text o)
   unfolding enc_option enc_text
-  root_sized end none = refl
-  root_sized end (some t) = omega arith
+  root_sized end None = refl
+  root_sized end (Some t) = omega arith
 
   -- a form that has every table
   pub holds_in : names_in f.tables ≡ names → Holds x (contents_in f s) s
@@ -128,7 +125,7 @@ all-tables : (f : Form) → In f forms → names_in f.tables ≡ names
 all-tables f here = refl
 all-tables f (there x) = elim x [ ]
 
-opened_some : (x : List ℕ) (r : Read) → Bytes x → read_image x ≡ some r → OpenedAs x (contents_in r.form r.state)
+opened_some : (x : List ℕ) (r : Read) → Bytes x → read_image x ≡ Some r → OpenedAs x (contents_in r.form r.state)
 unfolding decode_image
 opened_some x r b e =
     let w = one-image x r b e in
@@ -140,18 +137,18 @@ opened_some x r b e =
       short = subst (λ (l : List ℕ). length l ≤ longest) w.is w.formed.size;
     }
 
-module _ (x : List ℕ) (o : Opened) (told : o ≡ opened_of (read_image x)) where
-  pub opened_as : Bytes x → o.found ≡ true → OpenedAs x o.contents
-  opened_as b h = go (read_image x) refl
+module _ (x : List ℕ) (o : Option Contents) (told : o ≡ opened_of (read_image x)) where
+  pub opened_as : Bytes x → (c : Contents) → o ≡ Some c → OpenedAs x c
+  opened_as b c h = go (read_image x) refl
     where
-      go : (r : Option Read) → read_image x ≡ r → OpenedAs x o.contents
-      go none e = let z : false ≡ true = sym (ap (λ (p : Opened). p.found) (told ∙ ap opened_of e)) ∙ h in let y : ◌≡◌ {A = ℕ} 0 1 = cc in absurd (omega arith)
-      go (some r) e = subst (OpenedAs x) (sym (ap (λ (p : Opened). p.contents) (told ∙ ap opened_of e))) (opened_some x r b e)
+      go : (r : Option Read) → read_image x ≡ r → OpenedAs x c
+      go None e = let z : None ≡ Some c = sym (told ∙ ap opened_of e) ∙ h in cc
+      go (Some r) e = let z : Some (contents_in r.form r.state) ≡ Some c = sym (told ∙ ap opened_of e) ∙ h in let q : contents_in r.form r.state ≡ c = cc in subst (OpenedAs x) q (opened_some x r b e)
 
-  pub not_opened : o.found ≡ false → decode_image x ≡ none
+  pub not_opened : o ≡ None → decode_image x ≡ None
   unfolding decode_image
   not_opened h = go (read_image x) refl
     where
-      go : (r : Option Read) → read_image x ≡ r → decode_image x ≡ none
-      go none e = ap state_read e
-      go (some r) e = let z : true ≡ false = sym (ap (λ (p : Opened). p.found) (told ∙ ap opened_of e)) ∙ h in let y : ◌≡◌ {A = ℕ} 0 1 = cc in absurd (omega arith)
+      go : (r : Option Read) → read_image x ≡ r → decode_image x ≡ None
+      go None e = ap state_read e
+      go (Some r) e = let z : Some (contents_in r.form r.state) ≡ None = sym (told ∙ ap opened_of e) ∙ h in cc

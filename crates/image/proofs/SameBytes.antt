@@ -1,7 +1,6 @@
 -- Two records are equal just where their bytes are: one comparison of parts instead of one field by field.
-use Rattle.std.specs.Prelude.{ℕ, ◌≡◌, refl, Bool, true, false, List, []}
+use Rattle.std.specs.Prelude.{ℕ, ◌≡◌, refl, Bool, true, false, List, [], Option}
 use Rattle.std.proofs.Common.{sym, ap, ◌∙◌, append-nil}
-use Rattle.std.proofs.Math.Option.{Option}
 use Rattle.text.specs.Same.{same_of}
 use Rattle.text.specs.SameLaws.{same_true, same_of_eq}
 use Rattle.state.specs.Maps.{Text, same, same_option}

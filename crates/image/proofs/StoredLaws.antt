@@ -1,16 +1,16 @@
 -- What is stored in a state that has an image: its tables ascend, each record is within its format and under its own id, and the
 -- hops over the bytes of its tables find it.
-use Rattle.std.specs.Prelude.{ℕ, ◌+◌, ◌-◌, ◌≤◌, ◌≡◌, refl, length, take, drop, true}
+use Rattle.std.specs.Prelude.{ℕ, ◌+◌, ◌-◌, ◌≤◌, ◌≡◌, refl, length, take, drop, true, None, Some}
 use Rattle.std.proofs.Common.{arith, ◌∙◌, length-append, length-drop}
 use Rattle.std.proofs.Math.Path.{ap}
 use mathlib.Core.List.{List, [], ◌∷◌, ◌++◌}
-use Rattle.std.proofs.Math.Option.{none, some}
 use Rattle.std.proofs.Math.Seq.{take-append_seam}
 use Rattle.state.specs.Maps.{Text, Map, Entry, key_of, is_less, ◌⟼◌}
 use Rattle.state.proofs.Places.{ahead, at, behind}
 use Rattle.state.specs.Records.{State}
 use Rattle.fields.specs.Format.{all, Every, after, ascends, Rows, Field, El, enc, Within}
-use Rattle.fields.specs.Codes.{Code, key_limit, codes}
+use Rattle.fields.specs.declared.Code.{Code}
+use Rattle.fields.specs.Codes.{key_limit, codes}
 use Rattle.tables.specs.Seek.{Seen, seek, placed, row_of as row-found}
 use Rattle.tables.specs.SeekLaws.{Hopped, seek_is, hopped-row}
 use Rattle.image.specs.Body.{row, id}
@@ -26,14 +26,14 @@ use Rattle.fields.proofs.FormatLaws.{and_true}
 
 -- ROWS OF A MAP: each entry as it is written, under its own key
 module _ {A B : Type 0} (at : Entry A → Text × B) where
-  below_of : (m : Map A) (k : Text) → Every (OwnKey at) m → ascends id (some k) (each at m) ≡ true → Below k m × Ascending m
+  below_of : (m : Map A) (k : Text) → Every (OwnKey at) m → ascends id (Some k) (each at m) ≡ true → Below k m × Ascending m
   unfolding each ascends after
   below_of [] k o a = (tt, tt)
   below_of ((j ⟼ v) ∷ m) k o a =
-      let (a₀, a₁) = and_true (is_less (order_of k (at (j ⟼ v)).0)) (ascends id (some (at (j ⟼ v)).0) (each at m)) a in
+      let (a₀, a₁) = and_true (is_less (order_of k (at (j ⟼ v)).0)) (ascends id (Some (at (j ⟼ v)).0) (each at m)) a in
       (is_less_true (order_of k j) (rw o.0 at a₀), below_of m j o.1 (rw o.0 at a₁))
 
-  pub ascending_of : (m : Map A) → Every (OwnKey at) m → ascends id none (each at m) ≡ true → Ascending m
+  pub ascending_of : (m : Map A) → Every (OwnKey at) m → ascends id None (each at m) ≡ true → Ascending m
   unfolding each ascends after
   ascending_of [] o a = tt
   ascending_of ((j ⟼ v) ∷ m) o a = below_of m j o.1 (rw o.0 at a)

@@ -1,11 +1,10 @@
 -- An image is tested by walks alone, with no value made: they accept just the images that `decode_in` reads.
-use Rattle.std.specs.Prelude.{ℕ, zero, ◌+◌, ◌-◌, ◌≡◌, Bool, cond, ◌&&◌, leb}
+use Rattle.std.specs.Prelude.{ℕ, ◌+◌, ◌-◌, ◌≡◌, Bool, cond, ◌&&◌, leb, None}
 use native.Mathlib.Omega.{arith}
 use Rattle.std.proofs.Math.Path.{refl, sym, ap}
 use Rattle.std.proofs.Common.{◌∙◌}
 use Rattle.std.proofs.Math.Bool.{true, false}
 use mathlib.Core.List.{List, [], ◌∷◌}
-use Rattle.std.proofs.Math.Option.{none}
 use Rattle.std.proofs.Math.Dec.{eqb}
 use Rattle.std.proofs.Math.ListN.{length, length-append}
 use Rattle.state.specs.Maps.{is_some}
@@ -14,28 +13,14 @@ use Rattle.parts.specs.Digits.{Bytes}
 use Rattle.parts.specs.DigitLaws.{bytes_right}
 use Rattle.fields.specs.Format.{Malformed, OverLimit, Res, ok, bad, bind, check, El, dec, enc}
 use Rattle.fields.proofs.FormatLaws.{enc-dec}
-use Rattle.fields.specs.Codes.{codes, walk, forget}
+use Rattle.fields.specs.Codes.{forget}
 use Rattle.fields.proofs.CodeLaws.{walk-codes, bind-same}
-use Rattle.fields.specs.Rows.{walk_rows}
 use Rattle.fields.proofs.RowLaws.{walk_rows-is, forget-bind, bind-forget}
-use Rattle.image.specs.Body.{Body, one, table, row, write, read, Helds}
+use Rattle.image.specs.Body.{Body, one, table, write, read, Helds}
 use Rattle.image.specs.Contents.{Widths, entries, header, first, reads, decode, whole}
+use Rattle.image.specs.Walked.{walk_body, walk_bodies, walk_image, walk_image_in}
 use Rattle.image.proofs.BodyLaws.{BodyOk, body_ok}
 use Rattle.image.specs.Layout.{Form, bodies_in, held_in, decode_in}
-
--- THE WALKS
-unfoldable pub walk_body : Body → ℕ → List ℕ → Res (Unit {0})
-walk_body (one a f) k s = check (eqb k a) Malformed (walk zero (codes f) s)
-walk_body (table m n f) k s = check (leb k m) OverLimit (walk_rows (codes (row n f)) k none s)
-
-module _ (w : Widths) where
-  unfoldable pub walk_bodies : (bs : List Body) → ℕ → El (entries w bs) → List ℕ → Res (Unit {0})
-  walk_bodies [] at e s = ok tt s
-  walk_bodies (b ∷ bs) at e s =
-      bind (walk_body b e.0.1.1 s) (λ _ r. check (eqb e.0.0 at && eqb e.0.1.0 (length s - length r)) Malformed (walk_bodies bs (at + (length s - length r)) e.1 r))
-
-  unfoldable pub walk_image : List Body → List ℕ → Res (Unit {0})
-  walk_image bs s = bind (dec (header w bs) s) (λ h r. walk_bodies bs (first w bs) h.1 r)
 
 -- THEY ARE THE READERS, with the values forgotten
 forget-check : {A : Type 0} (b : Bool) (e : ℕ) (m : Res A) → forget (check b e m) ≡ check b e (forget m)
@@ -45,7 +30,7 @@ forget-check false e m = refl
 pub body_forget : (b : Body) (k : ℕ) (s : List ℕ) → walk_body b k s ≡ forget (read b k s)
 unfolding walk_body read
 body_forget (one a f) k s = ap (check (eqb k a) Malformed) (walk-codes f s) ∙ sym (forget-check (eqb k a) Malformed (dec f s))
-body_forget (table m n f) k s = ap (check (leb k m) OverLimit) (walk_rows-is n f k none s) ∙ sym (forget-check (leb k m) OverLimit _)
+body_forget (table m n f) k s = ap (check (leb k m) OverLimit) (walk_rows-is n f k None s) ∙ sym (forget-check (leb k m) OverLimit _)
 
 forget_pair : {A B : Type 0} (m : Res B) (v : A) → forget {A = A × B} (bind m (λ vs r. ok (v, vs) r)) ≡ forget m
 forget_pair (ok vs r) v = refl
@@ -93,10 +78,10 @@ module _ (f : Form) where
   whole-end (ok v (x ∷ r)) = refl
   whole-end (bad e) = refl
 
-  pub read_is_walked : (b : List ℕ) → Bytes b → is_some (decode_in f b) ≡ leb (length b) longest && to_the_end (walk_image f.widths (bodies_in f) b)
+  pub read_is_walked : (b : List ℕ) → Bytes b → is_some (decode_in f b) ≡ leb (length b) longest && to_the_end (walk_image_in f b)
   unfolding decode_in
   read_is_walked b k = go (leb (length b) longest)
     where
-      go : (t : Bool) → is_some (cond t (held_in f (whole (decode f.widths (bodies_in f) b))) none) ≡ t && to_the_end (walk_image f.widths (bodies_in f) b)
+      go : (t : Bool) → is_some (cond t (held_in f (whole (decode f.widths (bodies_in f) b))) None) ≡ t && to_the_end (walk_image_in f b)
       go true = whole-end (decode f.widths (bodies_in f) b) ∙ ap to_the_end (sym (image-forget f.widths (bodies_in f) b k))
       go false = refl

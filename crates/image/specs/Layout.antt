@@ -2,8 +2,7 @@
 -- A form is a value: the widths of a contents entry, the scalars, and the tables in their order with their limits. Where
 -- the first body stands follows from it, and bytes are read in the form whose first offset they have. A table that a form
 -- lacks is empty, and a number that it lacks is 0.
-use Rattle.std.specs.Prelude.{ℕ, ◌^◌, ◌≤◌, ◌<◌, ◌≡◌, Bool, cond, List, [], ◌∷◌, leb, eqb, length, take, drop}
-use Rattle.std.proofs.Math.Option.{Option, none, some}
+use Rattle.std.specs.Prelude.{ℕ, ◌^◌, ◌≤◌, ◌<◌, ◌≡◌, Bool, cond, List, [], ◌∷◌, leb, eqb, length, take, drop, Option, None, Some}
 use Rattle.state.specs.Maps.{Text, Map, Entry, ◌⟼◌, key_of, value_of}
 use Rattle.state.specs.Records.{ObjectReference, PreparedPublication, SnapshotLeaseToken, CollectionJobToken, DeletePermit, State, default}
 use Rattle.state.specs.Setters.{state, set_intents, set_roots, set_pins, set_deletion_reservations, set_leases, set_collection_jobs}
@@ -169,7 +168,7 @@ with_scalars_of plain v s = with_scalars v s
 
 -- of a version, and nothing else
 abbrev pub blank : ℕ → State
-blank n = state n default.revision 0 [] [] [] [] 0 none 0 0 0 0 0 0 [] 0 none []
+blank n = state n default.revision 0 [] [] [] [] 0 None 0 0 0 0 0 0 [] 0 None []
 
 -- A FORM
 pub record TableIn : Type 0 where
@@ -211,11 +210,11 @@ unfoldable pub encode_in : Form → State → List ℕ
 encode_in f s = encode f.widths (bodies_in f) (parts_in f s)
 
 abbrev pub held_in : (f : Form) → Reply (ℕ × Helds (bodies_in f)) → Option State
-held_in f (answer x) = some (state_in f x)
-held_in f (refusal e) = none
+held_in f (answer x) = Some (state_in f x)
+held_in f (refusal e) = None
 
 unfoldable pub decode_in : Form → List ℕ → Option State
-decode_in f b = cond (leb (length b) longest) (held_in f (whole (decode f.widths (bodies_in f) b))) none
+decode_in f b = cond (leb (length b) longest) (held_in f (whole (decode f.widths (bodies_in f) b))) None
 
 -- THE FORMS THAT ARE READ, and the one that is written
 abbrev pub most_intents : ℕ
@@ -273,16 +272,16 @@ pub record Read : Type 0 where
   pub state : State
 
 abbrev pub read_as : Form → Option State → Option Read
-read_as f none = none
-read_as f (some s) = some (record { form = f; state = s })
+read_as f None = None
+read_as f (Some s) = Some (record { form = f; state = s })
 
 unfoldable pub read_in : List Form → List ℕ → Option Read
-read_in [] b = none
+read_in [] b = None
 read_in (f ∷ fs) b = cond (is_in f b) (read_as f (decode_in f b)) (read_in fs b)
 
 abbrev pub state_read : Option Read → Option State
-state_read none = none
-state_read (some r) = some r.state
+state_read None = None
+state_read (Some r) = Some r.state
 
 -- THE IMAGE
 abbrev pub encode_image : State → List ℕ

@@ -6,6 +6,7 @@ pub mod Tables
 pub mod ImageParts
 pub mod Opened
 pub mod Placed
+pub mod Walked
 pub mod Front
 pub mod Stored
 pub mod TableLaws

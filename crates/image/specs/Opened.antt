@@ -1,7 +1,6 @@
 -- What opening an image answers: a function of the form and the state that it holds. And what the contents then show of
 -- the state, which is all that a transition rests on.
-use Rattle.std.specs.Prelude.{ℕ, ◌+◌, ◌-◌, ◌<◌, ◌≤◌, true, false, List, [], ◌∷◌, ◌++◌, ◌≡◌, length, take, drop, get_or}
-use Rattle.std.proofs.Math.Option.{Option, none, some}
+use Rattle.std.specs.Prelude.{ℕ, ◌+◌, ◌-◌, ◌<◌, ◌≤◌, List, [], ◌∷◌, ◌++◌, ◌≡◌, length, take, drop, get_or, Option, None, Some}
 use Rattle.parts.specs.Digits.{digits}
 use Rattle.parts.specs.Answer.{longest}
 use Rattle.parts.specs.Gather.{run}
@@ -10,23 +9,15 @@ use Rattle.state.specs.Records.{State}
 use Rattle.fields.specs.Format.{enc_option, enc_text}
 use Rattle.image.specs.Layout.{Form, Read, decode_image, Formed}
 use Rattle.image.specs.ImageParts.{TableBytes, tables_of, joined, Measure, measures, numbers_of, tables_at}
-use Rattle.image.specs.declared.MaybeNumber.{MaybeNumber}
-use Rattle.image.specs.declared.MaybeNumber.TheVariants.{NoNumber, Number}
-use Rattle.image.specs.declared.MaybeText.{MaybeText}
-use Rattle.image.specs.declared.MaybeText.TheVariants.{NoText}
 use Rattle.image.specs.declared.Table.{Table}
+use Rattle.image.specs.declared.TextAt.{TextAt}
 use Rattle.image.specs.declared.Scalars.{Scalars}
 use Rattle.image.specs.declared.Contents.{Contents}
-use Rattle.image.specs.declared.Opened.{Opened}
-
-abbrev pub number_of : Option ℕ → MaybeNumber
-number_of none = NoNumber
-number_of (some n) = Number n
 
 -- the collection root is the last of the scalars: it ends where the tables begin
-abbrev pub root_of : ℕ → Option Text → MaybeText
-root_of end none = NoText
-root_of end (some t) = MaybeText.Text (record { at = end - length t; len = length t })
+abbrev pub root_of : ℕ → Option Text → Option TextAt
+root_of end None = None
+root_of end (Some t) = Some (record { at = end - length t; len = length t })
 
 abbrev pub scalars_opened : ℕ → State → Scalars
 scalars_opened end s = record {
@@ -34,7 +25,7 @@ scalars_opened end s = record {
   index = s.revision.index;
   root_intent_epoch = s.root_intent_epoch;
   observed_commit_frontier = s.observed_commit_frontier;
-  retention_window = number_of s.retention_window;
+  retention_window = s.retention_window;
   retention_policy_epoch = s.retention_policy_epoch;
   policy_floor = s.policy_floor;
   minimum_readable_version = s.minimum_readable_version;
@@ -69,7 +60,7 @@ no_contents = record {
     index = 0;
     root_intent_epoch = 0;
     observed_commit_frontier = 0;
-    retention_window = NoNumber;
+    retention_window = None;
     retention_policy_epoch = 0;
     policy_floor = 0;
     minimum_readable_version = 0;
@@ -77,19 +68,19 @@ no_contents = record {
     lease_clock_tick = 0;
     lease_epoch = 0;
     range_map_epoch = 0;
-    collection_root = NoText;
+    collection_root = None;
   };
   tables = nowhere ∷ nowhere ∷ nowhere ∷ nowhere ∷ nowhere ∷ nowhere ∷ [];
 }
 
-abbrev pub opened_of : Option Read → Opened
-opened_of none = record { found = false; contents = no_contents }
-opened_of (some r) = record { found = true; contents = contents_in r.form r.state }
+abbrev pub opened_of : Option Read → Option Contents
+opened_of None = None
+opened_of (Some r) = Some (contents_in r.form r.state)
 
 -- what testing an image answers
 abbrev pub test_of : Option State → ℕ
-test_of none = 40
-test_of (some s) = 0
+test_of None = 40
+test_of (Some s) = 0
 
 -- WHAT CONTENTS SHOW OF A STATE
 -- the numbers of the scalars, in the order in which they are written
@@ -109,25 +100,25 @@ numbers_in n =
     ∷ []
 
 -- the root's option as it is written: its flag, and its text with the length byte before it
-abbrev pub root_flag : MaybeText → ℕ
-root_flag MaybeText.NoText = 0
-root_flag (MaybeText.Text t) = 1
+abbrev pub root_flag : Option TextAt → ℕ
+root_flag None = 0
+root_flag (Some t) = 1
 
-abbrev pub root_start : MaybeText → ℕ
-root_start MaybeText.NoText = 0
-root_start (MaybeText.Text t) = t.at - 1
+abbrev pub root_start : Option TextAt → ℕ
+root_start None = 0
+root_start (Some t) = t.at - 1
 
-abbrev pub root_width : MaybeText → ℕ
-root_width MaybeText.NoText = 0
-root_width (MaybeText.Text t) = t.len + 1
+abbrev pub root_width : Option TextAt → ℕ
+root_width None = 0
+root_width (Some t) = t.len + 1
 
-abbrev pub root_bytes : List ℕ → MaybeText → List ℕ
+abbrev pub root_bytes : List ℕ → Option TextAt → List ℕ
 root_bytes x t = digits 1 (root_flag t) ++ run x (root_start t) (root_width t)
 
 -- the root's text in the bytes x
-abbrev pub root_text_of : List ℕ → MaybeText → Option Text
-root_text_of x MaybeText.NoText = none
-root_text_of x (MaybeText.Text t) = some (take t.len (drop t.at x))
+abbrev pub root_text_of : List ℕ → Option TextAt → Option Text
+root_text_of x None = None
+root_text_of x (Some t) = Some (take t.len (drop t.at x))
 
 -- of a table its size and its count
 abbrev pub measure_in : Table → Measure
@@ -141,7 +132,7 @@ measures_in (t ∷ ts) = measure_in t ∷ measures_in ts
 pub record Shows (x : List ℕ) (c : Contents) (s : State) : Type 0 where
   pub version : c.format_version ≡ s.format_version
   pub numbers : numbers_in c.scalars ≡ numbers_of s
-  pub window : c.scalars.retention_window ≡ number_of s.retention_window
+  pub window : c.scalars.retention_window ≡ s.retention_window
   pub root : root_bytes x c.scalars.collection_root ≡ enc_option enc_text s.collection_root
   pub root_size : 1 + root_width c.scalars.collection_root ≡ length (enc_option enc_text s.collection_root)
   pub tables : measures_in c.tables ≡ measures (tables_of s)
@@ -156,7 +147,7 @@ pub record Holds (x : List ℕ) (c : Contents) (s : State) : Type 0 where
 -- WHAT OPENING TELLS of bytes that are an image: contents that hold the state that was read, in whatever form it was
 pub record OpenedAs (x : List ℕ) (c : Contents) : Type 0 where
   pub state : State
-  pub reads : decode_image x ≡ some state
+  pub reads : decode_image x ≡ Some state
   pub formed : Formed state
   pub holds : Holds x c state
   pub short : length x ≤ longest

@@ -1,7 +1,6 @@
 -- What is stored in a state that has an image: its tables ascend, each record is within its format and under its own id, and the
 -- hops over the bytes of its tables find it.
-use Rattle.std.specs.Prelude.{ℕ, ◌≡◌}
-use Rattle.std.proofs.Math.Option.{some}
+use Rattle.std.specs.Prelude.{ℕ, ◌≡◌, Some}
 use Rattle.state.specs.Maps.{Text, Map, Entry, ◌⟼◌, key_of, lookup}
 use Rattle.state.specs.Sorted.{Ascending}
 use Rattle.state.specs.Records.{State}
@@ -24,7 +23,7 @@ module _ {A : Type 0} (n : ℕ) (f : Field) (at : Entry A → El (row n f)) wher
   -- what is known of a table
   pub record Stored (m : Map A) : Type 0 where
     pub ascending : Ascending m
-    pub found : (k : Text) (v : A) → lookup k m ≡ some v → OwnKey at (k ⟼ v) × Within (row n f) (at (k ⟼ v))
+    pub found : (k : Text) (v : A) → lookup k m ≡ Some v → OwnKey at (k ⟼ v) × Within (row n f) (at (k ⟼ v))
     pub hopped : Every (Hopped (codes (row n f)) (λ e. enc (row n f) (at e)) key_of) m
 
 -- EVERY TABLE

@@ -1,4 +1,5 @@
 -- Prepare: what its code computes, as the rule and the next state have it.
+use Rattle.parts.specs.declared.Part.TheVariants.{First, Second, Number}
 use Rattle.std.specs.Prelude.{ℕ, ◌+◌, ◌-◌, ◌≤◌, Bool, ◌&&◌, List, [], ◌∷◌, ◌++◌, ◌≡◌, drop, set}
 use native.Mathlib.Omega.{arith}
 use Rattle.std.proofs.Math.Bool.{not}
@@ -13,7 +14,7 @@ use Rattle.state.specs.Maps.{Text, ◌⟼◌, insert}
 use Rattle.state.specs.Records.{State, PreparedPublication}
 use Rattle.state.specs.Setters.{set_revision}
 use Rattle.fields.specs.Format.{enc, enc_text}
-use Rattle.fields.specs.Codes.{codes_of, shape}
+use Rattle.fields.specs.Codes.{codes}
 use Rattle.tables.specs.Seek.{seek, placed}
 use Rattle.tables.specs.declared.Place.{Place}
 use Rattle.image.specs.Shapes.{intent, intent_parts}
@@ -74,7 +75,7 @@ module _ {x : List ℕ} {c : Contents} {q : List ℕ} {ctx : ContextAt} {f : Fau
   unfolding enc_text
   name-run = run-to q (enc_text name) intent_bytes 27 (length name + 1) fields (omega arith)
 
-  module _ (id : List ℕ) (e : id ≡ name) (place : Place) (found : place ≡ placed x (seek (codes_of (shape (row_format intents))) (table_in intents c).count id (drop (table_in intents c).at x))) where
+  module _ (id : List ℕ) (e : id ≡ name) (place : Place) (found : place ≡ placed x (seek (codes (row_format intents)) (table_in intents c).count id (drop (table_in intents c).at x))) where
     there : Located intents x c name place
     there = located_as intents e found
 
@@ -119,12 +120,12 @@ module _ {x : List ℕ} {c : Contents} {q : List ℕ} {ctx : ContextAt} {f : Fau
         )
 
     pub prepare-tables : (n : ℕ) → n ≡ place.start - tables_place c
-        → gather_of x q (0 ∷ tables_place c ∷ n ∷ 1 ∷ 27 ∷ (length id + 1) ∷ 2 ∷ ctx.generation ∷ 8 ∷ 1 ∷ (27 + (length id + 1)) ∷ length q ∷ 0 ∷ place.end ∷ length x ∷ [])
+        → gather_of x q (First (tables_place c) n ∷ Second 27 (length id + 1) ∷ Number ctx.generation 8 ∷ Second (27 + (length id + 1)) (length q) ∷ First place.end (length x) ∷ [])
         ≡ joined (tables_of (intent_prepared st name record_of))
     prepare-tables n h =
         let g = digits 8 ctx.generation in
         let rest = run q (27 + (length id + 1)) (length q) in
-        inserted_tables ready.holds ready.formed intents there record_of q (1 ∷ 27 ∷ (length id + 1) ∷ 2 ∷ ctx.generation ∷ 8 ∷ 1 ∷ (27 + (length id + 1)) ∷ length q ∷ [])
+        inserted_tables ready.holds ready.formed intents there record_of q (Second 27 (length id + 1) ∷ Number ctx.generation 8 ∷ Second (27 + (length id + 1)) (length q) ∷ [])
         (λ ps.
         ap (λ (l : List ℕ). run q 27 (length id + 1) ++ l) (sym (append_assoc g rest (gather_of x q ps)))
         ∙ sym (append_assoc (run q 27 (length id + 1)) (g ++ rest) (gather_of x q ps)) ∙ ap (λ (l : List ℕ). l ++ gather_of x q ps) row_is) n h

@@ -1,9 +1,9 @@
 -- Publish: what its code computes, as the rule and the next state have it.
-use Rattle.std.specs.Prelude.{ℕ, ◌+◌, ◌-◌, ◌≤◌, Bool, ◌&&◌, ◌≡◌, drop, get_or, set}
+use Rattle.parts.specs.declared.Part.TheVariants.{First, Second}
+use Rattle.std.specs.Prelude.{ℕ, ◌+◌, ◌-◌, ◌≤◌, Bool, ◌&&◌, ◌≡◌, drop, get_or, set, Option, Some}
 use Rattle.std.proofs.Common.{arith, sym, ◌∙◌, subst, length-drop}
 use Rattle.std.proofs.Math.Bool.{not}
 use mathlib.Core.List.{List, [], ◌∷◌, ◌++◌, append_assoc}
-use Rattle.std.proofs.Math.Option.{Option, some}
 use Rattle.std.proofs.Math.Path.{refl, ap}
 use Rattle.std.proofs.Math.ListN.{length, length-append}
 use Rattle.text.specs.Same.{same_of}
@@ -14,7 +14,7 @@ use Rattle.state.proofs.Places.{ahead, behind}
 use Rattle.state.specs.Records.{State, ObjectReference}
 use Rattle.state.specs.Setters.{set_revision, set_intents, set_roots}
 use Rattle.fields.specs.Format.{enc, enc_text, option, all}
-use Rattle.fields.specs.Codes.{codes_of, shape}
+use Rattle.fields.specs.Codes.{codes}
 use Rattle.tables.specs.Seek.{seek, placed}
 use Rattle.tables.specs.declared.Place.{Place}
 use Rattle.image.specs.Shapes.{reference, reference_parts, each_option}
@@ -76,24 +76,24 @@ module _ {x : List ℕ} {c : Contents} {q : List ℕ} {ctx : ContextAt} {f : Fau
 
   -- ---- the request
 
-  fields : drop 27 q ≡ enc_text name ++ (enc_text root ++ (option_bytes ++ held (some manifest)))
+  fields : drop 27 q ≡ enc_text name ++ (enc_text root ++ (option_bytes ++ held (Some manifest)))
   unfolding enc
   fields = fields_here _ q ready.request_is
 
-  after-name : drop (27 + (length name + 1)) q ≡ enc_text root ++ (option_bytes ++ held (some manifest))
+  after-name : drop (27 + (length name + 1)) q ≡ enc_text root ++ (option_bytes ++ held (Some manifest))
   unfolding enc_text
-  after-name = after_seam q (enc_text name) (enc_text root ++ (option_bytes ++ held (some manifest))) 27 (27 + (length name + 1)) fields (omega arith)
+  after-name = after_seam q (enc_text name) (enc_text root ++ (option_bytes ++ held (Some manifest))) 27 (27 + (length name + 1)) fields (omega arith)
 
   root-run : run q (27 + (length name + 1)) (length root + 1) ≡ enc_text root
   unfolding enc_text
-  root-run = run-to q (enc_text root) (option_bytes ++ held (some manifest)) (27 + (length name + 1)) (length root + 1) after-name (omega arith)
+  root-run = run-to q (enc_text root) (option_bytes ++ held (Some manifest)) (27 + (length name + 1)) (length root + 1) after-name (omega arith)
 
   abbrev option_place : ℕ
   option_place = 27 + (length name + 1) + (length root + 1)
 
-  after_root : drop option_place q ≡ option_bytes ++ held (some manifest)
+  after_root : drop option_place q ≡ option_bytes ++ held (Some manifest)
   unfolding enc_text
-  after_root = after_seam q (enc_text root) (option_bytes ++ held (some manifest)) (27 + (length name + 1)) option_place after-name (omega arith)
+  after_root = after_seam q (enc_text root) (option_bytes ++ held (Some manifest)) (27 + (length name + 1)) option_place after-name (omega arith)
 
   -- ---- what the code found
 
@@ -114,8 +114,8 @@ module _ {x : List ℕ} {c : Contents} {q : List ℕ} {ctx : ContextAt} {f : Fau
       pub given_bounds : (length given ≤ 8000) × (length q ≤ 8000)
       given_bounds = (omega (arith, ap length given_is, lengths q option_place expected manifest after_root, request_bounded ready), request_bounded ready)
 
-      module _ (p : Place) (found : p ≡ placed x (seek (codes_of (shape (row_format intents))) (table_in intents c).count id (drop (table_in intents c).at x)))
-          (o : Place) (found-root : o ≡ placed x (seek (codes_of (shape (row_format roots))) (table_in roots c).count dest (drop (table_in roots c).at x)))
+      module _ (p : Place) (found : p ≡ placed x (seek (codes (row_format intents)) (table_in intents c).count id (drop (table_in intents c).at x)))
+          (o : Place) (found-root : o ≡ placed x (seek (codes (row_format roots)) (table_in roots c).count dest (drop (table_in roots c).at x)))
         where
           intent-there : Located intents x c name p
           intent-there = located_as intents e found
@@ -173,7 +173,7 @@ module _ {x : List ℕ} {c : Contents} {q : List ℕ} {ctx : ContextAt} {f : Fau
 
           row-size : length dest + 1 + (length q - last) ≡ length (row_bytes roots (root ⟼ manifest))
           unfolding enc enc_text
-          row-size = omega (arith, ap length ed, last-length q option_place expected manifest after_root last last-is, length-append (enc_text root) (held (some manifest)))
+          row-size = omega (arith, ap length ed, last-length q option_place expected manifest after_root last last-is, length-append (enc_text root) (held (Some manifest)))
 
           -- the roots stand after what is behind the intent's place
           abbrev behind_it : List ℕ
@@ -200,7 +200,7 @@ module _ {x : List ℕ} {c : Contents} {q : List ℕ} {ctx : ContextAt} {f : Fau
               }
 
           pub publish-tables : (n₁ n₂ : ℕ) → n₁ ≡ p.start - tables_place c → n₂ ≡ o.start - p.end
-              → gather_of x q (0 ∷ tables_place c ∷ n₁ ∷ 0 ∷ p.end ∷ n₂ ∷ 1 ∷ (27 + (length id + 1)) ∷ (length dest + 1) ∷ 1 ∷ last ∷ length q ∷ 0 ∷ o.end ∷ length x ∷ [])
+              → gather_of x q (First (tables_place c) n₁ ∷ First p.end n₂ ∷ Second (27 + (length id + 1)) (length dest + 1) ∷ Second last (length q) ∷ First o.end (length x) ∷ [])
               ≡ joined (tables_of (root_published st name root manifest))
           publish-tables n₁ n₂ h₁ h₂ =
               let end : List ℕ = run x o.end (length x) ++ [] in

@@ -1,8 +1,7 @@
 -- On the row of a stored intent, the tests over bytes are those of the rule.
-use Rattle.std.specs.Prelude.{ℕ, ◌+◌, ◌-◌, Bool, true, false, ◌&&◌, List, [], ◌++◌, ◌≡◌, eqb, take, drop}
+use Rattle.std.specs.Prelude.{ℕ, ◌+◌, ◌-◌, Bool, true, false, ◌&&◌, List, [], ◌++◌, ◌≡◌, eqb, take, drop, Option, None, Some}
 use Rattle.std.proofs.Math.Bool.{not}
 use Rattle.std.proofs.Common.{append_assoc, ◌∙◌}
-use Rattle.std.proofs.Math.Option.{Option, none, some}
 use Rattle.std.proofs.Math.Path.{refl, sym, ap}
 use Rattle.std.proofs.Math.ListN.{length}
 use Rattle.std.proofs.Math.Seq.{drop-append_seam, drop-nil}
@@ -14,8 +13,7 @@ use Rattle.state.specs.Sorted.{Ascending}
 use Rattle.state.proofs.Places.{at}
 use Rattle.state.specs.Records.{ObjectReference, PreparedPublication, reference_eq}
 use Rattle.fields.specs.Format.{◌▹◌, enc, enc_text, option, all, Within}
-use Rattle.fields.specs.Codes.{skip, set_most, key_limit}
-use Rattle.fields.proofs.CodeLaws.{shape-codes}
+use Rattle.fields.specs.Codes.{codes, skip, set_most, key_limit}
 use Rattle.fields.specs.Rows.{text_here}
 use Rattle.fields.proofs.RowLaws.{text-there}
 use Rattle.sets.specs.Sets.{set_of}
@@ -33,12 +31,12 @@ use Rattle.publication.specs.References.{HeldWithin, row-rest}
 use Rattle.intents.specs.Tests.{from_manifest, from_root, from_prior, matches_in, differs_in, crosses_in, missing_in}
 
 abbrev pub held_intent : Option PreparedPublication → List ℕ
-held_intent none = []
-held_intent (some v) = enc prepared (prepared_parts v)
+held_intent None = []
+held_intent (Some v) = enc prepared (prepared_parts v)
 
 abbrev pub IntentWithin : Option PreparedPublication → Type 0
-IntentWithin none = Unit {0}
-IntentWithin (some v) = Within prepared (prepared_parts v)
+IntentWithin None = Unit {0}
+IntentWithin (Some v) = Within prepared (prepared_parts v)
 
 pub intent-held : (k : Text) (m : Map PreparedPublication) → Ascending m → drop (length k + 1) (all intent_row (at k m)) ≡ held_intent (lookup k m)
 unfolding all
@@ -52,8 +50,8 @@ pub intent-within : (m : Map PreparedPublication) → Stored short prepared (row
 intent-within m st k = go (lookup k m) refl
   where
     go : (o : Option PreparedPublication) → lookup k m ≡ o → IntentWithin o
-    go none e = tt
-    go (some v) e = (st.found k v e).1.1
+    go None e = tt
+    go (Some v) e = (st.found k v e).1.1
 
 in_order : (a b c d : Bool) → (a && (b && (c && d))) ≡ (a && b && c && d)
 in_order false b c d = refl
@@ -83,14 +81,14 @@ module _ (v : PreparedPublication) (w : Within prepared (prepared_parts v)) wher
   split_row = sym (append_assoc (digits 8 v.owner_generation) (enc keys v.intent.object_keys) (r ++ d))
 
   at-manifest : from_manifest row ≡ r ++ d
-  at-manifest = (λ i. skip 0 (shape-codes (u64 ▹ keys) refl i) (split_row i)) ∙ skip-to (u64 ▹ keys) (v.owner_generation, v.intent.object_keys) (r ++ d)
+  at-manifest = (λ i. skip 0 (codes (u64 ▹ keys)) (split_row i)) ∙ skip-to (u64 ▹ keys) (v.owner_generation, v.intent.object_keys) (r ++ d)
 
   at-root : from_root (from_manifest row) ≡ d
-  at-root = (λ i. skip 0 (shape-codes reference refl i) (at-manifest i)) ∙ skip-to reference (reference_parts v.intent.manifest) d
+  at-root = (λ i. skip 0 (codes reference) (at-manifest i)) ∙ skip-to reference (reference_parts v.intent.manifest) d
 
   at_prior : from_prior (from_root (from_manifest row)) ≡ enc (option reference) (each_option reference_parts v.intent.expected_prior_root)
   unfolding enc
-  at_prior = (λ i. skip 0 (shape-codes name refl i) (at-root i)) ∙ skip-to name v.intent.destination_root (enc (option reference) (each_option reference_parts v.intent.expected_prior_root))
+  at_prior = (λ i. skip 0 (codes name) (at-root i)) ∙ skip-to name v.intent.destination_root (enc (option reference) (each_option reference_parts v.intent.expected_prior_root))
 
   keys-there : set_of (drop 8 row) ≡ v.intent.object_keys
   unfolding enc
@@ -117,15 +115,15 @@ module _ (manifest : ObjectReference) (root : Text) (prior : Option ObjectRefere
   pub differs_is : (o : Option PreparedPublication) → IntentWithin o
       → differs_in (held_intent o) (enc reference (reference_parts manifest)) root (enc (option reference) (each_option reference_parts prior)) manifest.key ≡ fails (intent_matches root prior manifest) o
   unfolding differs_in
-  differs_is none w = refl
-  differs_is (some v) w = λ i. not (row-full v w i) && not (matches_is v w manifest root prior wm wp i)
+  differs_is None w = refl
+  differs_is (Some v) w = λ i. not (row-full v w i) && not (matches_is v w manifest root prior wm wp i)
 
 pub crosses_is : (across : Bool) (generation : ℕ) (o : Option PreparedPublication) → IntentWithin o → crosses_in across (held_intent o) generation ≡ (not across && fails (λ p. eqb p.owner_generation generation) o)
 unfolding crosses_in
-crosses_is across generation none w = refl
-crosses_is across generation (some v) w = λ i. not across && (not (row-full v w i) && not (eqb (owner-there v w i) generation))
+crosses_is across generation None w = refl
+crosses_is across generation (Some v) w = λ i. not across && (not (row-full v w i) && not (eqb (owner-there v w i) generation))
 
 pub missing_is : (without : Bool) (o : Option PreparedPublication) → IntentWithin o → missing_in without (held_intent o) ≡ (not without && not (is_some o))
 unfolding missing_in
-missing_is without none w = refl
-missing_is without (some v) w = λ i. not without && row-full v w i
+missing_is without None w = refl
+missing_is without (Some v) w = λ i. not without && row-full v w i

@@ -4,7 +4,7 @@ use Rattle.text.specs.Same.{same_of}
 use Rattle.parts.specs.Digits.{value}
 use Rattle.state.specs.Maps.{is_empty, contains}
 use Rattle.state.specs.Records.{is_manifest, valid_reference, valid_intent}
-use Rattle.fields.specs.Codes.{skip, codes_of, shape}
+use Rattle.fields.specs.Codes.{codes, skip}
 use Rattle.fields.specs.Rows.{text_here}
 use Rattle.fields.specs.Format.{◌▹◌}
 use Rattle.tables.specs.declared.Place.{Place}
@@ -30,13 +30,13 @@ prepare_tests x reserved q f a place =
 
 -- PUBLISH: what a stored intent's row holds after its id, nothing where there is none
 abbrev pub from_manifest : List ℕ → List ℕ
-from_manifest row = skip 0 (codes_of (shape (u64 ▹ keys))) row
+from_manifest row = skip 0 (codes (u64 ▹ keys)) row
 
 abbrev pub from_root : List ℕ → List ℕ
-from_root m = skip 0 (codes_of (shape reference)) m
+from_root m = skip 0 (codes reference) m
 
 abbrev pub from_prior : List ℕ → List ℕ
-from_prior d = skip 0 (codes_of (shape name)) d
+from_prior d = skip 0 (codes name) d
 
 unfoldable pub matches_in : (row manifest root prior key : List ℕ) → Bool
 matches_in row manifest root prior key =

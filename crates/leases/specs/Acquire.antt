@@ -1,11 +1,12 @@
 -- AcquireLease: its answers, and the contents that show its next state.
-use Rattle.std.specs.Prelude.{ℕ, ◌+◌, ◌-◌, ◌≤◌, min, cond, ◌&&◌, List, [], ◌∷◌, ◌++◌, ◌≡◌, length, drop, set, leb}
+use Rattle.parts.specs.declared.Part.TheVariants.{First, Second, Number}
+use Rattle.std.specs.Prelude.{ℕ, ◌+◌, ◌-◌, ◌≤◌, min, cond, ◌&&◌, List, [], ◌∷◌, ◌++◌, ◌≡◌, length, drop, set, leb, Option, None, Some, is_none}
 use Rattle.std.proofs.Common.{arith, append-nil, sym, ◌∙◌, subst}
 use Rattle.std.proofs.Math.Bool.{not}
-use Rattle.std.proofs.Math.Option.{Option, none, some}
 use Rattle.std.proofs.Math.Path.{refl, ap}
 use Rattle.std.proofs.Math.Dec.{ltb}
 use borrow.Author.Tests.{ltb-true, ltb-false}
+use Rattle.parts.specs.declared.Part.{Part}
 use Rattle.parts.specs.Gather.{gather_of}
 use Rattle.state.specs.Maps.{Text, is_some, has_key, insert}
 use Rattle.state.proofs.MapLaws.{by_test}
@@ -17,7 +18,7 @@ use Rattle.tables.specs.Seek.{rows_at}
 use Rattle.tables.specs.declared.Place.{Place}
 use Rattle.image.specs.Layout.{reservations, leases}
 use Rattle.image.specs.Front.{Small}
-use Rattle.image.specs.Opened.{number_of, measures_in, Shows, Holds}
+use Rattle.image.specs.Opened.{measures_in, Shows, Holds}
 use Rattle.image.specs.Shapes.{lease, lease_parts, closure_parts}
 use Rattle.image.specs.ImageParts.{tables_of, joined}
 use Rattle.image.specs.TableLaws.{index, table_in, tables_place}
@@ -25,7 +26,7 @@ use Rattle.image.specs.declared.Table.{Table}
 use Rattle.image.specs.declared.Contents.{Contents}
 use Rattle.machine.specs.Actions.{rejected, accepted, Rule, decide, LeaseAcquired}
 use Rattle.machine.specs.Machine.{act, acquire_lease}
-use Rattle.machine.specs.Next.{up, acquired, new_lease}
+use Rattle.machine.specs.Next.{up, acquired, new_lease, policy_for}
 use Rattle.machine.specs.Tests.{Refusal, first_of}
 use Rattle.machine.proofs.TestLaws.{Agrees, ◌then◌, first-refuses, first-passed, first_decides}
 use Rattle.requests.specs.Request.{acquire}
@@ -44,12 +45,12 @@ use Rattle.next.specs.Edit.{none-there}
 use Rattle.next.specs.Kept.{number_is, small-held}
 use Rattle.next.specs.Outcome.{outcome_bytes, Fits}
 use Rattle.next.specs.declared.PublicationOutcome.{PublicationOutcome}
-use Rattle.floor.specs.Floors.{policy_for_window, readable_for_window, oldest_at}
+use Rattle.floor.specs.Floors.{readable_for_window, oldest_at}
 use Rattle.floor.specs.Oldest.{oldest-here}
 use Rattle.reserved.specs.Located.{reserved-here}
 use Rattle.edits.specs.Changes.{after_insert}
 use Rattle.edits.specs.PlaceLaws.{Located, table_bounds, spot, missing, held, inserted_shown, inserted_tables}
-use Rattle.leases.specs.Tests.{unset_of, acquire_tests}
+use Rattle.leases.specs.Tests.{acquire_tests}
 use Rattle.leases.specs.Oldest.{oldest-insert}
 use Rattle.leases.specs.Leased.{Leased, recomputed, small-leases}
 use Rattle.leases.specs.Asked.{a as front_of, b as back-of, front_length, halves_length, asked-gathers, asked-length}
@@ -82,9 +83,9 @@ pub record Acquiring (x : List ℕ) (c : Contents) (q : List ℕ) (a : ContextAt
   pub taken : ruled ready ≡ accepted (acquired ready.state (text_of q l.lease_id) (new ready) f.omit_lease_root_epoch) (LeaseAcquired (new ready))
 
 -- THE TESTS
-unset_is : (o : Option ℕ) → unset_of (number_of o) ≡ not (is_some o)
-unset_is none = refl
-unset_is (some n) = refl
+unset_is : (o : Option ℕ) → is_none o ≡ not (is_some o)
+unset_is None = refl
+unset_is (Some n) = refl
 
 module _ {x : List ℕ} {c : Contents} {q : List ℕ} {a : ContextAt} {f : FaultsAt} {l : AcquireLeaseAt} (ready : Ready x c q (record { context = a; faults = f; action = PublicationAction.AcquireLease l }))
     {place : Place} (found : Located leases x c (text_of q l.lease_id) place)
@@ -110,7 +111,7 @@ module _ {x : List ℕ} {c : Contents} {q : List ℕ} {a : ContextAt} {f : Fault
         then refl
         then refl
         then refl
-        then ap unset_of h.shows.window ∙ unset_is ready.state.retention_window
+        then ap is_none h.shows.window ∙ unset_is ready.state.retention_window
         then known
         then ap (λ (n : ℕ). not f.accept_backdated_lease && ltb l.snapshot_version n) (number_is h 6)
         then ap (λ (n : ℕ). ltb n l.snapshot_version) (number_is h 3)
@@ -193,7 +194,7 @@ module _ {x : List ℕ} {c : Contents} {q : List ℕ} {a : ContextAt} {f : Fault
       pub acquire-shows : {old candidate : ℕ}
           → epoch ≡ up c.scalars.lease_epoch
           → root-epoch ≡ cond f.omit_lease_root_epoch c.scalars.root_intent_epoch (up c.scalars.root_intent_epoch)
-          → policy ≡ policy_for_window c.scalars.retention_window c.scalars.observed_commit_frontier c.scalars.policy_floor
+          → policy ≡ policy_for c.scalars.retention_window c.scalars.observed_commit_frontier c.scalars.policy_floor
           → old ≡ oldest_at policy (rows_at (codes lease) (table_in leases c).count (drop (table_in leases c).at x))
           → candidate ≡ min l.snapshot_version old
           → readable ≡ readable_for_window c.scalars.retention_window candidate c.scalars.minimum_readable_version
@@ -211,16 +212,16 @@ module _ {x : List ℕ} {c : Contents} {q : List ℕ} {a : ContextAt} {f : Fault
       epoch-is : epoch ≡ up r.state.lease_epoch
       epoch-is = next ∙ ap up (number_is r.holds 9)
 
-      abbrev row : List ℕ
-      row = 1 ∷ start ∷ first ∷ 2 ∷ epoch ∷ 8 ∷ 1 ∷ rest ∷ second ∷ 2 ∷ a.generation ∷ 8 ∷ 2 ∷ a.position.term ∷ 8 ∷ 2 ∷ a.position.index ∷ 8 ∷ []
+      abbrev row : List Part
+      row = Second start first ∷ Number epoch 8 ∷ Second rest second ∷ Number a.generation 8 ∷ Number a.position.term 8 ∷ Number a.position.index 8 ∷ []
 
-      row-gathers : (ps : List ℕ) → gather_of x q (row ++ ps) ≡ enc lease (lease_parts (new r)) ++ gather_of x q ps
+      row-gathers : (ps : List Part) → gather_of x q (row ++ ps) ≡ enc lease (lease_parts (new r)) ++ gather_of x q ps
       row-gathers ps =
           asked-gathers q key (text_of q l.tenant_id) l.snapshot_version (text_of q l.owner) (text_of q l.purpose) l.deadline_tick (closure_of q l.closure) (here r) r.state (context_of a)
           x start rest first second epoch (s₁ ∙ start_is) (s₂ ∙ rest-is) first-is second_is epoch-is ps
 
       pub acquire-tables : (n : ℕ) → n ≡ place.start - tables_place c
-          → gather_of x q (0 ∷ tables_place c ∷ n ∷ (row ++ 0 ∷ place.end ∷ length x ∷ [])) ≡ joined (tables_of (acquired r.state key (new r) f.omit_lease_root_epoch))
+          → gather_of x q (First (tables_place c) n ∷ (row ++ First place.end (length x) ∷ [])) ≡ joined (tables_of (acquired r.state key (new r) f.omit_lease_root_epoch))
       acquire-tables = inserted_tables r.holds r.formed leases g.found (new r) q row row-gathers
 
       abbrev pub told : LeaseTokenAt
@@ -254,8 +255,8 @@ module _ {x : List ℕ} {c : Contents} {q : List ℕ} {a : ContextAt} {f : Fault
       pub acquire-fits : Fits x q (PublicationOutcome.LeaseAcquired told)
       acquire-fits = (
         omega (arith, end_low),
-        (λ i. gather_of x q (1 ∷ sym s₁ i ∷ (sym s₂ i - sym s₁ i) ∷ 2 ∷ epoch ∷ 8 ∷ 1 ∷ sym s₂ i ∷ (End - sym s₂ i) ∷ 2 ∷ a.generation ∷ 8 ∷ 2 ∷ a.position.term ∷ 8 ∷ 2 ∷ a.position.index ∷ 8 ∷ []))
-            ∙ (λ i. gather_of x q (1 ∷ start ∷ sym s₃ i ∷ 2 ∷ epoch ∷ 8 ∷ 1 ∷ rest ∷ sym s₄ i ∷ 2 ∷ a.generation ∷ 8 ∷ 2 ∷ a.position.term ∷ 8 ∷ 2 ∷ a.position.index ∷ 8 ∷ []))
+        (λ i. gather_of x q (Second (sym s₁ i) (sym s₂ i - sym s₁ i) ∷ Number epoch 8 ∷ Second (sym s₂ i) (End - sym s₂ i) ∷ Number a.generation 8 ∷ Number a.position.term 8 ∷ Number a.position.index 8 ∷ []))
+            ∙ (λ i. gather_of x q (Second start (sym s₃ i) ∷ Number epoch 8 ∷ Second rest (sym s₄ i) ∷ Number a.generation 8 ∷ Number a.position.term 8 ∷ Number a.position.index 8 ∷ []))
             ∙ row-gathers [] ∙ append-nil (enc lease (lease_parts (new r))) ∙ ap (λ (t : SnapshotLeaseToken). enc lease (lease_parts t)) (sym token_is),
       )
 

@@ -7,6 +7,8 @@ use Rattle.std.proofs.Common.{◌∙◌, length-drop}
 use Rattle.std.proofs.Math.ListN.{length, length-append}
 use Rattle.parts.specs.Digits.{digits}
 use Rattle.parts.specs.DigitLaws.{length_digits}
+use Rattle.parts.specs.declared.Part.{Part}
+use Rattle.parts.specs.declared.Part.TheVariants.{Second, Number}
 use Rattle.parts.specs.Gather.{gather_of, run}
 use Rattle.state.specs.Maps.{Text}
 use Rattle.state.specs.Records.{SnapshotClosure, SnapshotLeaseToken, State, AuthorityContext}
@@ -55,8 +57,8 @@ module _ (q : List ℕ) (id tenant : Text) (version : ℕ) (owner purpose : Text
 
       -- THE LEASE'S BYTES: start and rest are where the id and the owner stand, and first and second how long the halves are
       pub asked-gathers : (y : List ℕ) (start rest first second epoch : ℕ) → start ≡ 27 → rest ≡ 27 + length a → first ≡ length a → second ≡ length b → epoch ≡ up s.lease_epoch
-          → (ps : List ℕ)
-          → gather_of y q (1 ∷ start ∷ first ∷ 2 ∷ epoch ∷ 8 ∷ 1 ∷ rest ∷ second ∷ 2 ∷ x.generation ∷ 8 ∷ 2 ∷ x.position.term ∷ 8 ∷ 2 ∷ x.position.index ∷ 8 ∷ ps)
+          → (ps : List Part)
+          → gather_of y q (Second start first ∷ Number epoch 8 ∷ Second rest second ∷ Number x.generation 8 ∷ Number x.position.term 8 ∷ Number x.position.index 8 ∷ ps)
           ≡ enc lease (lease_parts token) ++ gather_of y q ps
       asked-gathers y start rest first second epoch e r f t u ps =
           let run-a : run q start first ≡ a = (λ i. run q (e i) (f i)) ∙ run-to q a b 27 (length a) halves refl in

@@ -1,5 +1,5 @@
 -- The contents after a change of leases, and the state that they show.
-use Rattle.std.specs.Prelude.{ℕ, ◌+◌, ◌≤◌, List, ◌≡◌, length, set}
+use Rattle.std.specs.Prelude.{ℕ, ◌+◌, ◌≤◌, List, ◌≡◌, set, Option}
 use Rattle.std.proofs.Common.{arith, sym, ap, ◌∙◌, subst}
 use Rattle.state.specs.Maps.{Map}
 use Rattle.state.specs.Records.{SnapshotLeaseToken, State}
@@ -9,7 +9,7 @@ use Rattle.image.specs.ImageParts.{tables_of, measures}
 use Rattle.image.specs.Opened.{numbers_in, measures_in, root_bytes, root_width, Shows, Holds}
 use Rattle.image.specs.Front.{Light, Small}
 use Rattle.image.specs.TableLaws.{index}
-use Rattle.image.specs.declared.MaybeText.{MaybeText}
+use Rattle.image.specs.declared.TextAt.{TextAt}
 use Rattle.image.specs.declared.Table.{Table}
 use Rattle.image.specs.declared.Contents.{Contents}
 use Rattle.machine.specs.Next.{◌▸◌, oldest, policy_for, readable_for}
@@ -17,7 +17,7 @@ use Rattle.requests.specs.Meaning.{position_of}
 use Rattle.requests.specs.declared.AuthorityContext.{AuthorityContext}
 use Rattle.next.specs.Kept.{number_is}
 use Rattle.next.specs.ShownLaws.{small-table}
-use Rattle.floor.specs.Floors.{policy_for_window, readable_for_window, policy-is, readable-is}
+use Rattle.floor.specs.Floors.{readable_for_window, readable-is}
 
 -- the numbers that it sets, by their places in the list
 abbrev numbers_after : List ℕ → AuthorityContext → (root-epoch policy readable clock epoch : ℕ) → List ℕ
@@ -53,13 +53,13 @@ module _ {x : List ℕ} {c : Contents} {s : State} (h : Holds x c s) {a : Author
       numbers = l.numbers ∙ (λ i. numbers_after (h.shows.numbers i) a (er i) (p i) (r i) (ek i) (ee i));
       window = l.window ∙ h.shows.window;
       root = ap (root_bytes x) l.root ∙ h.shows.root;
-      root_size = ap (λ (t : MaybeText). 1 + root_width t) l.root ∙ h.shows.root_size;
+      root_size = ap (λ (t : Option TextAt). 1 + root_width t) l.root ∙ h.shows.root_size;
       tables = ap measures_in l.tables ∙ e;
     }
 
     -- with the floors recomputed
     pub recomputed : {candidate : ℕ}
-        → policy ≡ policy_for_window c.scalars.retention_window c.scalars.observed_commit_frontier c.scalars.policy_floor
+        → policy ≡ policy_for c.scalars.retention_window c.scalars.observed_commit_frontier c.scalars.policy_floor
         → candidate ≡ oldest policy m
         → readable ≡ readable_for_window c.scalars.retention_window candidate c.scalars.minimum_readable_version
         → Shows x d (set_revision (position_of a.position)
@@ -67,7 +67,7 @@ module _ {x : List ℕ} {c : Contents} {s : State} (h : Holds x c s) {a : Author
         (readable_for s.retention_window (policy_for s.retention_window s.observed_commit_frontier s.policy_floor) m s.minimum_readable_version) clock' epoch'))
     recomputed {candidate} p k r =
         let floor : ℕ = policy_for s.retention_window s.observed_commit_frontier s.policy_floor in
-        let p' : policy ≡ floor = p ∙ (λ i. policy_for_window (h.shows.window i) (number_is h 3 i) (number_is h 5 i)) ∙ policy-is s.retention_window s.observed_commit_frontier s.policy_floor in
+        let p' : policy ≡ floor = p ∙ (λ i. policy_for (h.shows.window i) (number_is h 3 i) (number_is h 5 i)) in
         leases-shown p'
         (r ∙ (λ i. readable_for_window (h.shows.window i) ((k ∙ ap (λ (v : ℕ). oldest v m) p') i) (number_is h 6 i)) ∙ readable-is s.retention_window floor m s.minimum_readable_version)
 
@@ -78,5 +78,4 @@ small-leases k {t = t} l h =
     record {
       root = omega (arith, k.root, ap root_width l.root);
       tables = subst Light (ap measures_in (sym l.tables)) u.tables;
-      six = ap length l.tables ∙ u.six;
     }

@@ -1,5 +1,5 @@
 -- The oldest leased version of the leases that stay, row by row.
-use Prim.Native.Nat.{ℕ, ◌+◌, ◌-◌, ◌≤◌, ◌<◌, min}
+use Prim.Native.Nat.{ℕ, min}
 use Rattle.std.proofs.Common.{arith, sym, ◌∙◌}
 use Rattle.std.specs.Prelude.{Bool, ◌≡◌, take, drop}
 use Rattle.std.proofs.Math.Bool.{cond}
@@ -12,9 +12,7 @@ use Rattle.state.proofs.MapLaws.{by_test}
 use Rattle.state.specs.Sorted.{Each}
 use Rattle.state.specs.Records.{SnapshotLeaseToken, State}
 use Rattle.fields.specs.Format.{all}
-use Rattle.fields.specs.Codes.{Code, codes, skip, codes_of, shape}
-use Rattle.fields.proofs.CodeLaws.{shape-codes}
-use Rattle.fields.specs.Walks.{place_of}
+use Rattle.fields.specs.Codes.{codes, skip}
 use Rattle.fields.specs.Rows.{text_here}
 use Rattle.tables.specs.Seek.{rows_at}
 use Rattle.tables.specs.SeekLaws.{Hopped, tails, rows_are}
@@ -29,7 +27,6 @@ use Rattle.image.specs.declared.Contents.{Contents}
 use Rattle.machine.specs.Formed.{LeaseAt}
 use Rattle.machine.specs.Next.{oldest}
 use Rattle.entries.proofs.Sized.{image_texts, well_formed}
-use Rattle.expiry.specs.Due.{rows_none, rows_next}
 use Rattle.floor.specs.Oldest.{version-row}
 
 -- a row that is gone is passed over
@@ -46,24 +43,19 @@ kept_in gone v m (r ∷ rs) =
     by_test (λ b. min v (cond b (oldest_kept gone m rs) (min w (oldest_kept gone m rs))) ≡ cond b (oldest_kept gone (min v m) rs) (min w (oldest_kept gone (min v m) rs))) (gone r)
     (λ _. i) (λ _. omega arith)
 
-kept_row : (gone : List ℕ → Bool) (v m : ℕ) (r : List ℕ) (rs : List (List ℕ)) → v ≡ value (take 8 (skip 0 (codes before_version) r)) → oldest_kept gone m (r ∷ rs) ≡ oldest_kept gone (cond (gone r) m (min v m)) rs
-unfolding oldest_kept
-kept_row gone v m r rs e =
-    ap (λ (n : ℕ). cond (gone r) (oldest_kept gone m rs) (min n (oldest_kept gone m rs))) (sym e)
-    ∙ by_test (λ b. cond b (oldest_kept gone m rs) (min v (oldest_kept gone m rs)) ≡ oldest_kept gone (cond b m (min v m)) rs) (gone r) (λ _. refl) (λ _. kept_in gone v m rs)
-
--- row after row, with what is left of s at p
-module _ (gone : List ℕ → Bool) (s : List ℕ) (p n i m : ℕ) where
-  pub kept-end : n ≤ i → oldest_kept gone m (rows_at (codes lease) (n - i) (drop p s)) ≡ m
+-- a row of the loop: the smallest version so far stands for the floor
+module _ (gone : List ℕ → Bool) (m : ℕ) where
+  pub kept-end : oldest_kept gone m [] ≡ m
   unfolding oldest_kept
-  kept-end h = ap (oldest_kept gone m) (rows_none s p n i h)
+  kept-end = refl
 
-  pub kept_on : (v q : ℕ) → i < n → v ≡ value (take 8 (skip 0 (codes_of (shape before_version)) (drop p s)))
-      → q ≡ place_of s (skip 0 (codes_of (shape lease)) (drop p s))
-      → oldest_kept gone m (rows_at (codes lease) (n - i) (drop p s)) ≡ oldest_kept gone (cond (gone (drop p s)) m (min v m)) (rows_at (codes lease) (n - (i + 1)) (drop q s))
-  kept_on v q h ev eq =
-      ap (oldest_kept gone m) (rows_next s p n i q eq h)
-      ∙ kept_row gone v m (drop p s) (rows_at (codes lease) (n - (i + 1)) (drop q s)) (ev ∙ ap (λ (cs : List Code). value (take 8 (skip 0 cs (drop p s)))) (shape-codes before_version refl))
+  pub kept_on : (r : List ℕ) (rs : List (List ℕ)) → oldest_kept gone m (r ∷ rs) ≡ oldest_kept gone (cond (gone r) m (min (value (take 8 (skip 0 (codes before_version) r))) m)) rs
+  unfolding oldest_kept
+  kept_on r rs =
+      let v : ℕ = value (take 8 (skip 0 (codes before_version) r)) in
+      by_test (λ b. cond b (oldest_kept gone m rs) (min v (oldest_kept gone m rs)) ≡ oldest_kept gone (cond b m (min v m)) rs) (gone r) (λ _. refl) (λ _. kept_in gone v m rs)
+
+pub ruleset kept_steps = (kept-end, kept_on)
 
 -- the row of an id
 abbrev pub named : Text → List ℕ → Bool

@@ -7,8 +7,7 @@ use Rattle.parts.specs.Gather.{run}
 use Rattle.state.specs.Maps.{Text, ◌⟼◌, remove}
 use Rattle.state.specs.Records.{State}
 use Rattle.state.specs.Setters.{set_revision}
-use Rattle.fields.specs.Codes.{codes, codes_of, skip, shape}
-use Rattle.fields.proofs.CodeLaws.{shape-codes}
+use Rattle.fields.specs.Codes.{codes, skip}
 use Rattle.tables.specs.Seek.{rows_at}
 use Rattle.tables.specs.declared.Place.{Place}
 use Rattle.image.specs.Layout.{leases}
@@ -21,7 +20,7 @@ use Rattle.image.specs.declared.Table.{Table}
 use Rattle.image.specs.declared.Contents.{Contents}
 use Rattle.machine.specs.Actions.{rejected, accepted, Rule, decide, Applied}
 use Rattle.machine.specs.Machine.{act, release_lease}
-use Rattle.machine.specs.Next.{up, released}
+use Rattle.machine.specs.Next.{up, released, policy_for}
 use Rattle.machine.specs.Tests.{Refusal, first_of}
 use Rattle.machine.proofs.TestLaws.{Agrees, ◌then◌, first-refuses, first-passed, first_decides}
 use Rattle.requests.specs.Meaning.{text_of, position_of, context_of, faults_of, action_of}
@@ -31,7 +30,7 @@ use Rattle.requests.specs.declared.PublicationAuthorityFaults.{PublicationAuthor
 use Rattle.requests.specs.declared.AuthorityContext.{AuthorityContext as ContextAt}
 use Rattle.next.specs.Kept.{number_is, small-held}
 use Rattle.next.specs.Call.{Ready, ruled}
-use Rattle.floor.specs.Floors.{policy_for_window, readable_for_window}
+use Rattle.floor.specs.Floors.{readable_for_window}
 use Rattle.edits.specs.Changes.{after_remove}
 use Rattle.edits.specs.PlaceLaws.{Located, Held, table_bounds, missing, held, removed_shown}
 use Rattle.leases.specs.Rows.{epoch-row}
@@ -54,7 +53,7 @@ module _ {x : List ℕ} {c : Contents} {q : List ℕ} {a : ContextAt} {f : Fault
     asked = act s (action_of q (PublicationAction.ReleaseLease l)) (context_of a) (faults_of f)
 
     -- the row there, and the epoch read from it
-    module _ {row : List ℕ} (row_is : row ≡ run x place.start (place.end - place.start)) {now : ℕ} (read : now ≡ value (take 8 (skip 0 (codes_of (shape before_epoch)) row))) where
+    module _ {row : List ℕ} (row_is : row ≡ run x place.start (place.end - place.start)) {now : ℕ} (read : now ≡ value (take 8 (skip 0 (codes before_epoch) row))) where
       abbrev tests : List Refusal
       tests = release_tests row now l.expected_lease_epoch
 
@@ -63,7 +62,7 @@ module _ {x : List ℕ} {c : Contents} {q : List ℕ} {a : ContextAt} {f : Fault
 
       epoch-is : (v : Held ready.holds ready.formed leases found) → now ≡ v.value.lease_epoch
       epoch-is v =
-          read ∙ (λ i. value (take 8 (skip 0 (shape-codes before_epoch refl i) ((row_is ∙ v.row ∙ sym (append-nil (lease_row (id ⟼ v.value)))) i))))
+          read ∙ (λ i. value (take 8 (skip 0 (codes before_epoch) ((row_is ∙ v.row ∙ sym (append-nil (lease_row (id ⟼ v.value)))) i))))
           ∙ epoch-row v.value [] v.within.1.1.1.0
 
       tests_agree : Agrees tests asked
@@ -89,7 +88,7 @@ module _ {x : List ℕ} {c : Contents} {q : List ℕ} {a : ContextAt} {f : Fault
       pub release-shows : {text : Text} → text ≡ id → {candidate : ℕ}
           → epoch ≡ up c.scalars.lease_epoch
           → root-epoch ≡ cond f.omit_lease_root_epoch c.scalars.root_intent_epoch (up c.scalars.root_intent_epoch)
-          → policy ≡ policy_for_window c.scalars.retention_window c.scalars.observed_commit_frontier c.scalars.policy_floor
+          → policy ≡ policy_for c.scalars.retention_window c.scalars.observed_commit_frontier c.scalars.policy_floor
           → candidate ≡ oldest_kept (named text) policy (rows_at (codes lease) (table_in leases c).count (drop (table_in leases c).at x))
           → readable ≡ readable_for_window c.scalars.retention_window candidate c.scalars.minimum_readable_version
           → Shows x d (set_revision (position_of a.position) (released s id f.omit_lease_root_epoch))

@@ -1,4 +1,5 @@
 -- RenewLease: its answers, and the contents that show its next state.
+use Rattle.parts.specs.declared.Part.TheVariants.{First, Number}
 use Rattle.std.specs.Prelude.{ℕ, ◌+◌, ◌-◌, ◌≤◌, ◌<◌, List, [], ◌∷◌, ◌++◌, ◌≡◌, refl, drop, set, eqb}
 use Rattle.std.proofs.Common.{arith, append-nil, ◌∙◌, take-append-drop}
 use Rattle.std.proofs.Math.Bool.{not, cond}
@@ -6,6 +7,7 @@ use Rattle.std.proofs.Math.Path.{sym, ap}
 use Rattle.std.proofs.Math.ListN.{length}
 use Rattle.std.proofs.Math.Dec.{leb}
 use Rattle.parts.specs.Answer.{longest}
+use Rattle.parts.specs.declared.Part.{Part}
 use Rattle.parts.specs.Gather.{gather_of, run}
 use Rattle.state.specs.Maps.{Text, insert}
 use Rattle.state.specs.Records.{SnapshotLeaseToken, State}
@@ -236,18 +238,18 @@ module _ {x : List ℕ} {c : Contents} {q : List ℕ} {a : ContextAt} {f : Fault
     next_epoch : epoch ≡ up r.state.lease_epoch
     next_epoch = next ∙ ap up (number_is r.holds 9)
 
-    abbrev parts_at : ℕ → List ℕ
+    abbrev parts_at : ℕ → List Part
     parts_at p =
-        0 ∷ p ∷ n₁ ∷ 2 ∷ epoch ∷ 8 ∷ 0 ∷ (p + rest) ∷ n₂ ∷ 2 ∷ l.new_deadline_tick ∷ 8 ∷ 0 ∷ (p + (Deadline + 8)) ∷ n₃
-        ∷ 2 ∷ a.generation ∷ 8 ∷ 2 ∷ a.position.term ∷ 8 ∷ 2 ∷ a.position.index ∷ 8 ∷ []
+        First p n₁ ∷ Number epoch 8 ∷ First (p + rest) n₂ ∷ Number l.new_deadline_tick 8 ∷ First (p + (Deadline + 8)) n₃
+        ∷ Number a.generation 8 ∷ Number a.position.term 8 ∷ Number a.position.index 8 ∷ []
 
-    gathers-at : (y rest_of : List ℕ) (p : ℕ) → drop p y ≡ enc lease (lease_parts old) ++ rest_of → (ps : List ℕ) → gather_of y q (parts_at p ++ ps) ≡ enc lease (lease_parts new) ++ gather_of y q ps
+    gathers-at : (y rest_of : List ℕ) (p : ℕ) → drop p y ≡ enc lease (lease_parts old) ++ rest_of → (ps : List Part) → gather_of y q (parts_at p ++ ps) ≡ enc lease (lease_parts new) ++ gather_of y q ps
     unfolding token
     gathers-at y rest_of p h ps =
         renewed-gathers old y rest_of p h rest Deadline End (s₁ ∙ rest-is) (deadline-place ∙ ap (λ (n : ℕ). n + length (names_of old)) (sym s₁)) end_is q r.state l.new_deadline_tick (context_of a) epoch n₁ n₂ n₃ next_epoch e₁ e₂ e₃ ps
 
     pub renew-tables : (n : ℕ) → n ≡ place.start - tables_place c
-        → gather_of x q (0 ∷ tables_place c ∷ n ∷ (parts_at place.start ++ 0 ∷ place.end ∷ length x ∷ [])) ≡ joined (tables_of (renewed r.state key new f.omit_lease_root_epoch))
+        → gather_of x q (First (tables_place c) n ∷ (parts_at place.start ++ First place.end (length x) ∷ [])) ≡ joined (tables_of (renewed r.state key new f.omit_lease_root_epoch))
     renew-tables = inserted_tables r.holds r.formed leases g.found new q (parts_at place.start) (gathers-at x after_row place.start row_here)
 
     abbrev pub told : LeaseTokenAt
@@ -286,10 +288,9 @@ module _ {x : List ℕ} {c : Contents} {q : List ℕ} {a : ContextAt} {f : Fault
         let z₁ : rest ≡ 0 + rest = omega arith in
         let z₂ : Deadline + 8 ≡ 0 + (Deadline + 8) = omega arith in (
           (omega (arith, id-is), ends_low.2, ends_low.3),
-          (λ i. gather_of row q (0 ∷ (id-is i - 1) ∷ (sym s₁ i - (id-is i - 1 + 8)) ∷ 2 ∷ epoch ∷ 8 ∷ 0 ∷ sym s₁ i ∷ (Deadline - sym s₁ i) ∷ 2 ∷ l.new_deadline_tick ∷ 8 ∷ 0 ∷ (Deadline + 8) ∷ (End - (Deadline + 8))
-              ∷ 2 ∷ a.generation ∷ 8 ∷ 2 ∷ a.position.term ∷ 8 ∷ 2 ∷ a.position.index ∷ 8 ∷ []))
-              ∙ (λ i. gather_of row q (0 ∷ 0 ∷ sym e₁ i ∷ 2 ∷ epoch ∷ 8 ∷ 0 ∷ rest ∷ sym e₂ i ∷ 2 ∷ l.new_deadline_tick ∷ 8 ∷ 0 ∷ (Deadline + 8) ∷ sym e₃ i ∷ 2 ∷ a.generation ∷ 8 ∷ 2 ∷ a.position.term ∷ 8 ∷ 2 ∷ a.position.index ∷ 8 ∷ []))
-              ∙ (λ i. gather_of row q (0 ∷ 0 ∷ n₁ ∷ 2 ∷ epoch ∷ 8 ∷ 0 ∷ z₁ i ∷ n₂ ∷ 2 ∷ l.new_deadline_tick ∷ 8 ∷ 0 ∷ z₂ i ∷ n₃ ∷ 2 ∷ a.generation ∷ 8 ∷ 2 ∷ a.position.term ∷ 8 ∷ 2 ∷ a.position.index ∷ 8 ∷ []))
+          (λ i. gather_of row q (First (id-is i - 1) (sym s₁ i - (id-is i - 1 + 8)) ∷ Number epoch 8 ∷ First (sym s₁ i) (Deadline - sym s₁ i) ∷ Number l.new_deadline_tick 8 ∷ First (Deadline + 8) (End - (Deadline + 8)) ∷ Number a.generation 8 ∷ Number a.position.term 8 ∷ Number a.position.index 8 ∷ []))
+              ∙ (λ i. gather_of row q (First 0 (sym e₁ i) ∷ Number epoch 8 ∷ First rest (sym e₂ i) ∷ Number l.new_deadline_tick 8 ∷ First (Deadline + 8) (sym e₃ i) ∷ Number a.generation 8 ∷ Number a.position.term 8 ∷ Number a.position.index 8 ∷ []))
+              ∙ (λ i. gather_of row q (First 0 n₁ ∷ Number epoch 8 ∷ First (z₁ i) n₂ ∷ Number l.new_deadline_tick 8 ∷ First (z₂ i) n₃ ∷ Number a.generation 8 ∷ Number a.position.term 8 ∷ Number a.position.index 8 ∷ []))
               ∙ gathers-at row [] 0 (row_bytes ∙ sym (append-nil (enc lease (lease_parts old)))) [] ∙ append-nil (enc lease (lease_parts new)) ∙ ap (λ (t : SnapshotLeaseToken). enc lease (lease_parts t)) (sym token_is),
         )
 

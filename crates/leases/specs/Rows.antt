@@ -16,7 +16,7 @@ number_in f v n r h = ap (λ (l : List ℕ). value (take 8 l)) (skip-to f v (dig
 
 module _ (t : SnapshotLeaseToken) (r : List ℕ) where
   pub epoch-row : t.lease_epoch < 256 ^ 8 → value (take 8 (skip 0 (codes before_epoch) (enc lease (lease_parts t) ++ r))) ≡ t.lease_epoch
-  unfolding enc codes
+  unfolding enc
   epoch-row h =
       let f : Field = name ▹ name ▹ u64 in
       let v : El f = (t.lease_id, (t.tenant_id, t.snapshot_version)) in
@@ -25,7 +25,7 @@ module _ (t : SnapshotLeaseToken) (r : List ℕ) where
       ap (λ (l : List ℕ). value (take 8 (skip 0 (codes before_epoch) l))) e ∙ number_in f v t.lease_epoch (b ++ r) h
 
   pub deadline-row : t.deadline_tick < 256 ^ 8 → value (take 8 (skip 0 (codes before_deadline) (enc lease (lease_parts t) ++ r))) ≡ t.deadline_tick
-  unfolding enc codes
+  unfolding enc
   deadline-row h =
       let f : Field = name ▹ name ▹ u64 ▹ u64 ▹ name ▹ name in
       let v : El f = (t.lease_id, (t.tenant_id, (t.snapshot_version, (t.lease_epoch, (t.owner, t.purpose))))) in

@@ -5,6 +5,8 @@ use mathlib.Core.List.{List, [], ◌∷◌, ◌++◌, append_assoc, append-nil}
 use Rattle.std.proofs.Math.ListN.{length-append}
 use Rattle.parts.specs.Digits.{digits}
 use Rattle.parts.specs.DigitLaws.{length_digits}
+use Rattle.parts.specs.declared.Part.{Part}
+use Rattle.parts.specs.declared.Part.TheVariants.{First, Number}
 use Rattle.parts.specs.Gather.{gather_of, run}
 use Rattle.state.specs.Records.{SnapshotLeaseToken, State, AuthorityContext}
 use Rattle.fields.specs.Format.{Field, ◌▹◌, El, enc, enc_text}
@@ -94,8 +96,8 @@ module _ (t : SnapshotLeaseToken) where
 
       -- THE PARTS OF A RENEWED LEASE: n₁, n₂ and n₃ bytes of what stays
       pub renewed-gathers : (q : List ℕ) (s : State) (tick : ℕ) (x : AuthorityContext) (epoch n₁ n₂ n₃ : ℕ) → epoch ≡ up s.lease_epoch → n₁ ≡ rest - 8 → n₂ ≡ deadline - rest → n₃ ≡ end - (deadline + 8)
-          → (ps : List ℕ)
-          → gather_of y q (0 ∷ p ∷ n₁ ∷ 2 ∷ epoch ∷ 8 ∷ 0 ∷ (p + rest) ∷ n₂ ∷ 2 ∷ tick ∷ 8 ∷ 0 ∷ (p + (deadline + 8)) ∷ n₃ ∷ 2 ∷ x.generation ∷ 8 ∷ 2 ∷ x.position.term ∷ 8 ∷ 2 ∷ x.position.index ∷ 8 ∷ ps)
+          → (ps : List Part)
+          → gather_of y q (First p n₁ ∷ Number epoch 8 ∷ First (p + rest) n₂ ∷ Number tick 8 ∷ First (p + (deadline + 8)) n₃ ∷ Number x.generation 8 ∷ Number x.position.term 8 ∷ Number x.position.index 8 ∷ ps)
           ≡ enc lease (lease_parts (renewed_lease s t tick x)) ++ gather_of y q ps
       renewed-gathers q s tick x epoch n₁ n₂ n₃ u e₁ e₂ e₃ ps =
           let run-a : run y p n₁ ≡ a = run-to y a (digits 8 t.lease_epoch ++ after_epoch) p n₁ at_row (omega (arith, e₁, rest-is)) in

@@ -1,9 +1,8 @@
 -- The tests of the actions on a lease by its id, over the bytes of image and request.
-use Rattle.std.specs.Prelude.{ℕ, Bool, true, false, not, ◌&&◌, List, [], ◌∷◌, eqb, leb, ltb, length}
+use Rattle.std.specs.Prelude.{ℕ, is_none, not, ◌&&◌, List, [], ◌∷◌, eqb, leb, ltb, length}
 use Rattle.state.specs.Maps.{is_empty}
 use Rattle.state.specs.Records.{valid_closure}
 use Rattle.tables.specs.declared.Place.{Place}
-use Rattle.image.specs.declared.MaybeNumber.{MaybeNumber}
 use Rattle.image.specs.declared.Scalars.{Scalars}
 use Rattle.image.specs.declared.Table.{Table}
 use Rattle.machine.specs.Tests.{Refusal, ◌when◌}
@@ -14,10 +13,6 @@ use Rattle.requests.specs.declared.RenewLease.{RenewLease}
 use Rattle.requests.specs.declared.SnapshotLeaseToken.{SnapshotLeaseToken}
 use Rattle.reserved.specs.Located.{reserved_in}
 
-abbrev pub unset_of : MaybeNumber → Bool
-unset_of MaybeNumber.NoNumber = true
-unset_of (MaybeNumber.Number n) = false
-
 -- a lease stands under the id where its place has an end past its start
 abbrev pub acquire_tests : List ℕ → Scalars → (reservations : Table) → List ℕ → PublicationAuthorityFaults → AcquireLease → Place → List Refusal
 acquire_tests x n reservations q f l place =
@@ -27,7 +22,7 @@ acquire_tests x n reservations q f l place =
     ∷ (2 when is_empty (text_of q l.owner))
     ∷ (2 when is_empty (text_of q l.purpose))
     ∷ (2 when not (valid_closure (closure_of q l.closure)))
-    ∷ (18 when unset_of n.retention_window)
+    ∷ (18 when is_none n.retention_window)
     ∷ (21 when ltb place.start place.end)
     ∷ (19 when not f.accept_backdated_lease && ltb l.snapshot_version n.minimum_readable_version)
     ∷ (20 when ltb n.observed_commit_frontier l.snapshot_version)

@@ -1,8 +1,7 @@
 -- What an acceptance tells, and from the rule of an action to `apply`.
 -- Assumes nothing.
-use Rattle.std.specs.Prelude.{◌≡◌, refl, List, [], ◌∷◌, Bool, true, false, ◌||◌, ℕ, eqb}
+use Rattle.std.specs.Prelude.{◌≡◌, refl, List, [], ◌∷◌, Bool, true, false, ◌||◌, ℕ, eqb, None, Some}
 use Rattle.std.proofs.Common.{subst, arith}
-use Rattle.std.proofs.Math.Option.{none, some}
 use Rattle.state.specs.Records.{AuthorityPosition, AuthorityContext, PublicationAuthorityFaults, State, valid_context}
 use Rattle.state.specs.Setters.{set_revision}
 use Rattle.machine.specs.Actions.{Action, Outcome, Transition, rejected, accepted, Rule, refuse_or, find_or, accept, decide}
@@ -24,7 +23,7 @@ Told false b T = T
 
 abbrev pub Ends : (rests : List ℕ) → (State → Outcome → Type 0) → Rule → Type 0
 Ends rests P (refuse_or n b r) = Told (among n rests) b (Ends rests P r)
-Ends rests P (find_or {A = A} n x k) = (v : A) → x ≡ some v → Ends rests P (k v)
+Ends rests P (find_or {A = A} n x k) = (v : A) → x ≡ Some v → Ends rests P (k v)
 Ends rests P (accept s o) = P s o
 
 pub not_accepted {ℓ} : {B : Type ℓ} {n : ℕ} {s : State} {o : Outcome} → rejected n ≡ accepted s o → B
@@ -41,8 +40,8 @@ pub accepts : (rests : List ℕ) (P : State → Outcome → Type 0) (r : Rule) �
 unfolding decide
 accepts rests P (refuse_or n true r) h s o e = not_accepted e
 accepts rests P (refuse_or n false r) h s o e = accepts rests P r (told (among n rests) _ h) s o e
-accepts rests P (find_or n none k) h s o e = not_accepted e
-accepts rests P (find_or n (some x) k) h s o e = accepts rests P (k x) (h x refl) s o e
+accepts rests P (find_or n None k) h s o e = not_accepted e
+accepts rests P (find_or n (Some x) k) h s o e = accepts rests P (k x) (h x refl) s o e
 accepts rests P (accept s' o') h s o e = let p : s' ≡ s = cc in let q : o' ≡ o = cc in subst (λ (x : State). P x o) p (subst (P s') q h)
 
 -- FROM THE RULE TO `apply`

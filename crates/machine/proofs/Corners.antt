@@ -1,9 +1,8 @@
 -- The corners that the scope paper and the requests name, each as a theorem of the definitions.
 -- Assumes nothing.
-use Rattle.std.specs.Prelude.{ℕ, ◌-◌, ◌^◌, ◌≡◌, true, false}
+use Rattle.std.specs.Prelude.{ℕ, ◌-◌, ◌^◌, ◌≡◌, true, false, Option, None, Some}
 use Rattle.std.proofs.Math.Path.{refl}
 use mathlib.Core.List.{List, [], ◌∷◌}
-use Rattle.std.proofs.Math.Option.{Option, none, some}
 use Rattle.std.proofs.Math.Bool.{cond}
 use Rattle.std.proofs.Math.Dec.{eqb}
 use Rattle.text.specs.SameLaws.{prefix_refl}
@@ -52,13 +51,13 @@ module _ (s : State) (c : AuthorityContext) (f : PublicationAuthorityFaults) whe
   -- An accepted AcquireLease gives the token of the request's id, version and closure, and the next state has it under the id. A
   -- renewal gives the one of the lease that it finds.
   pub acquire-gives : (id tenant : Text) (v : ℕ) (owner purpose : Text) (d : ℕ) (q : SnapshotClosure)
-      → Accepts (λ s' o. (t : SnapshotLeaseToken) × (o ≡ LeaseAcquired t) × (lookup id s'.leases ≡ some t) × Given s id v q t s') (acquire_lease s id tenant v owner purpose d q c f)
+      → Accepts (λ s' o. (t : SnapshotLeaseToken) × (o ≡ LeaseAcquired t) × (lookup id s'.leases ≡ Some t) × Given s id v q t s') (acquire_lease s id tenant v owner purpose d q c f)
   unfolding acquire_lease
   acquire-gives id tenant v owner purpose d q = accepts [] _ _
       (_, refl, lookup_insert_same id _ s.leases, record { its_id = refl; its_version = refl; its_closure = refl; its_epoch = refl; next_epoch = refl })
 
   pub renew-gives : (id : Text) (epoch deadline : ℕ)
-      → Accepts (λ s' o. (l t : SnapshotLeaseToken) × (lookup id s.leases ≡ some l) × (o ≡ LeaseRenewed t) × (lookup id s'.leases ≡ some t) × Given s l.lease_id l.snapshot_version l.closure t s') (renew_lease s id epoch deadline c f)
+      → Accepts (λ s' o. (l t : SnapshotLeaseToken) × (lookup id s.leases ≡ Some l) × (o ≡ LeaseRenewed t) × (lookup id s'.leases ≡ Some t) × Given s l.lease_id l.snapshot_version l.closure t s') (renew_lease s id epoch deadline c f)
   unfolding renew_lease
   renew-gives id epoch deadline = accepts [] _ _ (λ l at.
       (l, _, at, refl, lookup_insert_same id _ s.leases, record { its_id = refl; its_version = refl; its_closure = refl; its_epoch = refl; next_epoch = refl }))
@@ -70,7 +69,7 @@ module _ (s : State) (c : AuthorityContext) (f : PublicationAuthorityFaults) whe
   acquire-unreserved id tenant v owner purpose d q = accepts (ObjectDeletionReserved ∷ []) _ _ (λ free. none-reserved s q free)
 
   pub renew-unreserved : (id : Text) (epoch deadline : ℕ)
-      → Accepts (λ s' o. (l : SnapshotLeaseToken) × (lookup id s.leases ≡ some l) × Unreserved s.deletion_reservations l.closure) (renew_lease s id epoch deadline c f)
+      → Accepts (λ s' o. (l : SnapshotLeaseToken) × (lookup id s.leases ≡ Some l) × Unreserved s.deletion_reservations l.closure) (renew_lease s id epoch deadline c f)
   unfolding renew_lease
   renew-unreserved id epoch deadline = accepts (ObjectDeletionReserved ∷ []) _ _ (λ l at free. (l, at, none-reserved s l.closure free))
 
@@ -91,12 +90,12 @@ module _ (s : State) (c : AuthorityContext) (f : PublicationAuthorityFaults) whe
   -- Publish tests mismatch before generation: an intent that does not match is 5 whatever its generation.
   pub mismatch_first : (id root : Text) (prior : Option ObjectReference) (m : ObjectReference) (p : PreparedPublication)
       → is_empty id ≡ false → is_empty root ≡ false → is_manifest m ≡ true → valid_reference m ≡ true
-      → lookup id s.intents ≡ some p → intent_matches root prior m p ≡ false → decide (publish s id root prior m c.generation f) ≡ rejected 5
+      → lookup id s.intents ≡ Some p → intent_matches root prior m p ≡ false → decide (publish s id root prior m c.generation f) ≡ rejected 5
   unfolding publish decide
   mismatch_first id root prior m p h₁ h₂ h₃ h₄ at e = simp (h₁, h₂, h₃, h₄, at, e)
 
   -- RetireDelete tests the generation of the shown permit before equality.
-  pub generation-first : (p q : DeletePermit) → lookup p.key s.deletion_reservations ≡ some q → eqb p.owner_generation c.generation ≡ false
+  pub generation-first : (p q : DeletePermit) → lookup p.key s.deletion_reservations ≡ Some q → eqb p.owner_generation c.generation ≡ false
       → decide (retire_delete s p c.generation f) ≡ rejected 14
   unfolding retire_delete decide
   generation-first p q at e = simp (at, e)
@@ -120,6 +119,6 @@ pub key_is_namespace : (k : Text) → starts_with k k ≡ true
 key_is_namespace k = prefix_refl k
 
 -- An absent e_tag is not an empty one.
-pub absent_not_empty : (v : Option Text) → revision_eq (record { e_tag = none; version = v }) (record { e_tag = some []; version = v }) ≡ false
+pub absent_not_empty : (v : Option Text) → revision_eq (record { e_tag = None; version = v }) (record { e_tag = Some []; version = v }) ≡ false
 unfolding revision_eq every
 absent_not_empty v = refl

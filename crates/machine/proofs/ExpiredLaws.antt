@@ -6,8 +6,8 @@ use Rattle.std.proofs.Common.{arith, sym, ap, ◌∙◌, subst, lt-ltb, eq-eqb, 
 use Rattle.std.proofs.lemmas.List.{length-map}
 use Rattle.text.specs.Order.{order_of}
 use Rattle.text.proofs.OrderLaws.{flip, order_flip, order_refl, order_trans}
-use Rattle.text.specs.declared.Order.{Order}
-use Rattle.text.specs.declared.Order.TheVariants.{Less, Equal, Greater}
+use Rattle.std.specs.declared.cmp.Ordering.{Ordering}
+use Rattle.std.specs.declared.cmp.Ordering.TheVariants.{Less, Equal, Greater}
 use Rattle.state.specs.Maps.{Text, Entry, ◌⟼◌, key_of, value_of, before, entries_where, keys_where}
 use Rattle.state.proofs.MapLaws.{by_test, no_way, is_less_true}
 use Rattle.state.specs.Sorted.{Ascending, InOrder}
@@ -57,7 +57,7 @@ module _ (d e : ℕ) (i : Text) (d' e' : ℕ) (j : Text) where
   either_way : (order_of i j ≡ Equal → ⊥) → test ≡ false → Sooner d' e' j d e i
   either_way n h = by_numbers (dec_lt d d') (dec_lt d' d) (dec_lt e e') (dec_lt e' e)
     where
-      by_ids : d ≡ d' → e ≡ e' → (o : Order) → order_of i j ≡ o → Sooner d' e' j d e i
+      by_ids : d ≡ d' → e ≡ e' → (o : Ordering) → order_of i j ≡ o → Sooner d' e' j d e i
       by_ids p q Less z = no_way (tested (by_id p q z)) h
       by_ids p q Equal z = absurd (n z)
       by_ids p q Greater z = by_id (sym p) (sym q) (order_flip i j ∙ ap flip z)
@@ -94,7 +94,7 @@ trans (i ⟼ a) (j ⟼ b) (k ⟼ c) h g =
     (told a.deadline_tick a.lease_epoch i b.deadline_tick b.lease_epoch j h)
     (told b.deadline_tick b.lease_epoch j c.deadline_tick c.lease_epoch k g))
 
-not_equal : (o : Order) → o ≡ Less → o ≡ Equal → ⊥
+not_equal : (o : Ordering) → o ≡ Less → o ≡ Equal → ⊥
 not_equal o h e = let z : ◌≡◌ {A = ℕ} 0 1 = cc in omega arith
 
 less_differ : (i j : Text) → order_of i j ≡ Less → Differ i j

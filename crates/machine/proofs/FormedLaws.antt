@@ -1,9 +1,8 @@
 -- `apply` keeps states well formed, under any fault flags, and its outcome fits.
 -- Assumes nothing.
-use Rattle.std.specs.Prelude.{ℕ, ◌<◌, ◌^◌, ◌≡◌, refl, Bool, true, false, cond}
+use Rattle.std.specs.Prelude.{ℕ, ◌<◌, ◌^◌, ◌≡◌, refl, Bool, true, false, cond, Option, None, Some}
 use Rattle.std.proofs.Math.Path.{subst}
 use mathlib.Core.List.{List, [], ◌∷◌}
-use Rattle.std.proofs.Math.Option.{Option, none, some}
 use Rattle.std.proofs.Common.{arith}
 use Rattle.state.specs.Maps.{Text, Map, insert, remove, remove_all}
 use Rattle.state.proofs.MapLaws.{each-insert, each-remove, each-remove_all, each-lookup, each-keys}
@@ -35,13 +34,13 @@ moved-fits (id ∷ ids) n h = up_fits n
 
 policy-fits : (o : Option ℕ) (f n : ℕ) → f < 2 ^ 64 → n < 2 ^ 64 → policy_for o f n < 2 ^ 64
 unfolding policy_for
-policy-fits none f n hf hn = hn
-policy-fits (some w) f n hf hn = omega arith
+policy-fits None f n hf hn = hn
+policy-fits (Some w) f n hf hn = omega arith
 
 readable-fits : (o : Option ℕ) (p : ℕ) (m : Map SnapshotLeaseToken) (n : ℕ) → p < 2 ^ 64 → n < 2 ^ 64 → readable_for o p m n < 2 ^ 64
 unfolding readable_for
-readable-fits none p m n hp hn = hn
-readable-fits (some w) p m n hp hn = omega (arith, oldest_floor p m)
+readable-fits None p m n hp hn = hn
+readable-fits (Some w) p m n hp hn = omega (arith, oldest_floor p m)
 
 -- TABLES
 module _ {A : Type 0} (P : Text → A → Type 0) where
@@ -143,9 +142,9 @@ module _ (T : Texts) where
     act-formed : (a : Action) (c : AuthorityContext) → ActionFits T a → ContextFits c → Ends [] Still (act s a c f)
     unfolding act observe_committed_frontier set_window observe_range_map_epoch configure_collection_root acquire_lease renew_lease release_lease advance_lease_clock prepare_collection publish_collection abandon_collection prepare publish pin unpin reserve_delete retire_delete
     act-formed (ObserveCommittedFrontier x) c h k = (floored (keep-observed_commit_frontier x h w), tt)
-    act-formed (SetRetentionWindow e x) c h k = (floored (keep-retention_policy_epoch _ (up_fits s.retention_policy_epoch) (keep-retention_window (some x) h.1 w)), tt)
+    act-formed (SetRetentionWindow e x) c h k = (floored (keep-retention_policy_epoch _ (up_fits s.retention_policy_epoch) (keep-retention_window (Some x) h.1 w)), tt)
     act-formed (ObserveRangeMapEpoch e) c h k = (keep-range_map_epoch e h w, tt)
-    act-formed (ConfigureCollectionRoot x r) c h k = (bumped (keep-collection_root (some r) h.1 w), tt)
+    act-formed (ConfigureCollectionRoot x r) c h k = (bumped (keep-collection_root (Some r) h.1 w), tt)
     act-formed (AcquireLease id t v o p d q) c h k =
         let r = h.1.1 in
         let x = r.1.1 in

@@ -1,12 +1,11 @@
 -- DEMAND 3, the theorem: the claims hold of every two moments of every list of fewer than 2^64 - 1 calls, of any machine that
 -- follows `apply` and `validate`; and so of the machine over plain maps.
 -- Assumes nothing.
-use Rattle.std.specs.Prelude.{ℕ, suc, ◌+◌, ◌≤◌, ◌<◌, ◌↔◌, leb, eqb, length, take, drop}
+use Rattle.std.specs.Prelude.{ℕ, suc, ◌+◌, ◌≤◌, ◌<◌, ◌↔◌, leb, eqb, length, take, drop, Option, None, Some}
 use Rattle.std.proofs.Math.Path.{◌≡◌, refl, ap}
 use Rattle.std.proofs.Common.{sym, ◌∙◌, subst, arith, length-take, take-add}
 use mathlib.Core.List.Memᴰ
 use mathlib.Core.List.{List, [], ◌∷◌, ◌++◌, Memᴰ}
-use Rattle.std.proofs.Math.Option.{Option, none, some}
 use Rattle.std.proofs.Math.Bool.{cond}
 use borrow.Author.Tests.{eq-eqb, lt-leb}
 use Rattle.state.specs.Maps.{Text, lookup, map_values}
@@ -28,8 +27,8 @@ pub record Accepted (s : State) (asked : Option Action) (answered : Option Outco
   pub action : Action
   pub context : AuthorityContext
   pub outcome : Outcome
-  pub asks : asked ≡ some action
-  pub answers : answered ≡ some outcome
+  pub asks : asked ≡ Some action
+  pub answers : answered ≡ Some outcome
   pub applies : apply s action context no_faults ≡ accepted s' outcome
 
 abbrev pub Step : State → Event → State → Type 0
@@ -40,7 +39,7 @@ pub record Follows (M : Machine) : Type 0 where
   pub each_call : (x : M.Image) (s : State) → M.Holds x s → (r : M.Request) → (s' : State) × Step s (M.told x r) s' × M.Holds (M.call x r) s'
   -- validation of an image is that of the state that it holds
   pub validation : (x : M.Image) (s : State) → M.Holds x s → (t : M.Token)
-      → (M.check x t ≡ 0) ↔ ((u : SnapshotLeaseToken) × (M.spells t ≡ some u) × (validate s u ≡ 0))
+      → (M.check x t ≡ 0) ↔ ((u : SnapshotLeaseToken) × (M.spells t ≡ Some u) × (validate s u ≡ 0))
 
 -- ONE CALL
 module _ {n : ℕ} (few : n < top) {L : Ledger} (s : State) (i : Inv n (core s) L) (a : Action) (c : AuthorityContext) where
@@ -73,18 +72,18 @@ module _ {n : ℕ} (s : State) {L : Ledger} (i : Inv n (core s) L) where
       (λ _ (e : ◌≡◌ {A = ℕ} 1 0). absurd (omega arith)) h
     where
       go : (o : Option SnapshotLeaseToken) → lookup t.lease_id s.leases ≡ o → validate_found s t o ≡ 0 → Last t L
-      go none q e = absurd (omega arith)
-      go (some a) q e = by_test (λ b. lease_eq a t ≡ b → ◌≡◌ {A = ℕ} (cond b (cond (leb t.deadline_tick s.lease_clock_tick) 4 0) 3) 0 → Last t L) (lease_eq a t)
+      go None q e = absurd (omega arith)
+      go (Some a) q e = by_test (λ b. lease_eq a t ≡ b → ◌≡◌ {A = ℕ} (cond b (cond (leb t.deadline_tick s.lease_clock_tick) 4 0) 3) 0 → Last t L) (lease_eq a t)
           (λ _ z _. let f = linked_some t.lease_id a i.linked q in
           record { id = t.lease_id; lease = f.0; earlier = f.2.earlier; live_now = f.1; is_last = f.2.is_last ∙ ap (λ (x : SnapshotLeaseToken). x ∷ f.2.earlier) (f.3 ∙ lease_sound a t z) })
           (λ _ _ (w : ◌≡◌ {A = ℕ} 3 0). absurd (omega arith)) refl e
 
   -- the token that the state holds for the lease of a last one is that one
-  stored : (t : SnapshotLeaseToken) (w : Last t L) → lookup t.lease_id s.leases ≡ some t
+  stored : (t : SnapshotLeaseToken) (w : Last t L) → lookup t.lease_id s.leases ≡ Some t
   stored t w =
       let h = linked-live w.id w.lease i.linked w.live_now in
       let p : h.token ≡ t = one h.token h.earlier h.is_last in
-      subst (λ (x : SnapshotLeaseToken). lookup x.lease_id s.leases ≡ some x) p (ap (λ (x : Text). lookup x s.leases) h.ok.its_id ∙ h.stored)
+      subst (λ (x : SnapshotLeaseToken). lookup x.lease_id s.leases ≡ Some x) p (ap (λ (x : Text). lookup x s.leases) h.ok.its_id ∙ h.stored)
     where
       one : (u : SnapshotLeaseToken) (us : List SnapshotLeaseToken) → w.lease.tokens ≡ u ∷ us → u ≡ t
       one u us q = cc w.is_last
@@ -107,8 +106,8 @@ module _ {t : SnapshotLeaseToken} where
   end_all-ended (id ∷ ids) L m = end_all-ended ids (end id L) (Memᴰ.append_right (tokens_of (lookup id L.live)) m)
 
   renew-ended : (id : Text) (o : Option Lease) (u : Option SnapshotLeaseToken) (L : Ledger) → Memᴰ t L.ended → Memᴰ t (renew_found id o u L).ended
-  renew-ended id none u L m = m
-  renew-ended id (some l) u L m = m
+  renew-ended id None u L m = m
+  renew-ended id (Some l) u L m = m
 
   said-ended : (x : Says) (g : Gift) (L : Ledger) → Memᴰ t L.ended → Memᴰ t (record_said x g L).ended
   said-ended (begins id v c) g L m = m
@@ -177,7 +176,7 @@ module _ (M : Machine) (f : Follows M) where
         ended_never s₂ i u (stays u ended) (subst (λ (y : SnapshotLeaseToken). validate s₂ y ≡ 0) p z.2);
   }
     where
-      some_inj : {a b : SnapshotLeaseToken} → some a ≡ some b → a ≡ b
+      some_inj : {a b : SnapshotLeaseToken} → Some a ≡ Some b → a ≡ b
       some_inj e = cc
 
   pub history : (x : M.Image) → M.Holds x default → Always M x
@@ -197,13 +196,13 @@ answered_steps : (s : State) (r : Call) (t : Transition) → answered s r ≡ t 
 answered_steps s r (rejected n) q = refl
 answered_steps s r (accepted s' o) q = record { action = r.action; context = r.context; outcome = o; asks = refl; answers = refl; applies = q }
 
-own_token : (s : State) (t : SnapshotLeaseToken) → (validate s t ≡ 0) ↔ ((u : SnapshotLeaseToken) × (some t ≡ some u) × (validate s u ≡ 0))
+own_token : (s : State) (t : SnapshotLeaseToken) → (validate s t ≡ 0) ↔ ((u : SnapshotLeaseToken) × (Some t ≡ Some u) × (validate s u ≡ 0))
 own_token s t = (λ q. (t, refl, q), λ z. let p : t ≡ z.0 = cc z.1 in rw p z.2)
 
 map_follows : Follows maps
 map_follows = record {
   each_call = λ x s h r. subst (λ (y : State). (s' : State) × Step y (maps.told x r) s' × (maps.call x r ≡ s')) h (maps.call x r, answered_steps x r (answered x r) refl, refl);
-  validation = λ x s h t. subst (λ (y : State). (validate x t ≡ 0) ↔ ((u : SnapshotLeaseToken) × (some t ≡ some u) × (validate y u ≡ 0))) h (own_token x t);
+  validation = λ x s h t. subst (λ (y : State). (validate x t ≡ 0) ↔ ((u : SnapshotLeaseToken) × (Some t ≡ Some u) × (validate y u ≡ 0))) h (own_token x t);
 }
 
 pub map_history : Always maps default

@@ -1,9 +1,8 @@
 -- What every moment of a history keeps, and that each call keeps it.
 -- Assumes nothing.
-use Rattle.std.specs.Prelude.{ℕ, suc, ◌≤◌, ◌<◌, ◌-◌, min, max, ◌≡◌, List, [], ◌∷◌, cond}
+use Rattle.std.specs.Prelude.{ℕ, suc, ◌≤◌, ◌<◌, ◌-◌, min, max, ◌≡◌, List, [], ◌∷◌, cond, Option, None, Some}
 use Rattle.std.proofs.Math.Path.{refl}
 use Rattle.std.proofs.Common.{ap, ◌∙◌}
-use Rattle.std.proofs.Math.Option.{Option, none, some}
 use Rattle.std.proofs.Math.Bool.{Bool, false}
 use native.Mathlib.Omega.{arith}
 use borrow.Author.Tests.{ltb-false, leb-false, eqb-true, not-false}
@@ -49,8 +48,8 @@ pub record JobOk (readable : ℕ) (id : Text) (j : CollectionJobToken) : Type 0 
 pub record Good (s : Core) : Type 0 where
   pub format_1 : s.format ≡ 1
   pub ordered : Ordered s.five
-  pub lease_ok : (id : Text) (t : SnapshotLeaseToken) → lookup id s.leases ≡ some t → LeaseOk s.five.readable s.five.frontier s.five.clock s.reservations id t
-  pub job_ok : (id : Text) (j : CollectionJobToken) → lookup id s.jobs ≡ some j → JobOk s.five.readable id j
+  pub lease_ok : (id : Text) (t : SnapshotLeaseToken) → lookup id s.leases ≡ Some t → LeaseOk s.five.readable s.five.frontier s.five.clock s.reservations id t
+  pub job_ok : (id : Text) (j : CollectionJobToken) → lookup id s.jobs ≡ Some j → JobOk s.five.readable id j
 
 -- RESERVED KEYS: what the test of a lease's keys tells
 pub none-reserved : (s : State) (c : SnapshotClosure) → any_reserved s c.object_keys ≡ false → Unreserved s.deletion_reservations c
@@ -62,10 +61,10 @@ unfolding oldest
 oldest_floor n [] = omega arith
 oldest_floor n ((k ⟼ v) ∷ m) = omega (arith, oldest_floor n m)
 
-oldest-lease : (n : ℕ) (m : Map SnapshotLeaseToken) (k : Text) (v : SnapshotLeaseToken) → lookup k m ≡ some v → oldest n m ≤ v.snapshot_version
+oldest-lease : (n : ℕ) (m : Map SnapshotLeaseToken) (k : Text) (v : SnapshotLeaseToken) → lookup k m ≡ Some v → oldest n m ≤ v.snapshot_version
 unfolding oldest lookup
 oldest-lease n [] k v h = option_clash h
-oldest-lease n ((j ⟼ w) ∷ m) k v h = by_test (λ b. cond b (some w) (lookup k m) ≡ some v → min w.snapshot_version (oldest n m) ≤ v.snapshot_version) (same k j)
+oldest-lease n ((j ⟼ w) ∷ m) k v h = by_test (λ b. cond b (Some w) (lookup k m) ≡ Some v → min w.snapshot_version (oldest n m) ≤ v.snapshot_version) (same k j)
     (λ _ z. let q : w ≡ v = cc in rw q (omega arith))
     (λ _ z. omega (arith, oldest-lease n m k v z)) h
 
@@ -94,13 +93,13 @@ record Floor (policy policy' readable readable' frontier : ℕ) (leases : Map Sn
   policy_in : policy' ≤ frontier
   readable_up : readable ≤ readable'
   readable_in : readable' ≤ policy'
-  readable_lease : (id : Text) (t : SnapshotLeaseToken) → lookup id leases ≡ some t → readable ≤ t.snapshot_version → readable' ≤ t.snapshot_version
+  readable_lease : (id : Text) (t : SnapshotLeaseToken) → lookup id leases ≡ Some t → readable ≤ t.snapshot_version → readable' ≤ t.snapshot_version
 
 floor : (o : Option ℕ) (frontier policy readable : ℕ) (leases : Map SnapshotLeaseToken) → readable ≤ policy → policy ≤ frontier
     → Floor policy (policy_for o frontier policy) readable (readable_for o (policy_for o frontier policy) leases readable) frontier leases
 unfolding policy_for readable_for
-floor none frontier policy readable leases h k = record { policy_up = omega arith; policy_in = k; readable_up = omega arith; readable_in = h; readable_lease = λ id t q l. l }
-floor (some w) frontier policy readable leases h k =
+floor None frontier policy readable leases h k = record { policy_up = omega arith; policy_in = k; readable_up = omega arith; readable_in = h; readable_lease = λ id t q l. l }
+floor (Some w) frontier policy readable leases h k =
     let p = max policy (frontier - w) in let low = oldest_floor p leases in
     record { policy_up = omega arith; policy_in = omega arith; readable_up = omega arith; readable_in = omega arith; readable_lease = λ id t q l. let b = oldest-lease p leases id t q in omega arith }
 
@@ -141,8 +140,8 @@ up_next e n h l = omega arith
 
 -- a permit in an outcome names no key of a live lease
 abbrev pub Permits : Ledger → Option DeletePermit → Type 0
-Permits L none = Unit {0}
-Permits L (some p) = (id : Text) (l : Lease) → lookup id L.live ≡ some l → names l.closure p.key ≡ false
+Permits L None = Unit {0}
+Permits L (Some p) = (id : Text) (l : Lease) → lookup id L.live ≡ Some l → names l.closure p.key ≡ false
 
 -- the tests that the invariant rests on
 abbrev pub relied : List ℕ
@@ -159,7 +158,7 @@ plain k = (k, tt)
 module _ {n : ℕ} (few : n < top) {L : Ledger} (s : State) (i : Inv n (core s) L) where
   -- what the acceptances of an action keep
   abbrev pub Keeps : Action → State → Outcome → Type 0
-  Keeps a s' o = Kept n (core s) (core s') (note (took (some a) (some o)) L) × Permits L (gives (some o)).permit
+  Keeps a s' o = Kept n (core s) (core s') (note (took (Some a) (Some o)) L) × Permits L (gives (Some o)).permit
 
   frontier_keeps : (f : ℕ) → Ends relied (Keeps (ObserveCommittedFrontier f)) (observe_committed_frontier s f)
   unfolding observe_committed_frontier
@@ -324,7 +323,7 @@ module _ {n : ℕ} (few : n < top) {L : Ledger} (s : State) (i : Inv n (core s) 
 
   -- other reservations, of which no stored lease names one
   with_reservations : (m : Map DeletePermit)
-      → ((id : Text) (t : SnapshotLeaseToken) → lookup id s.leases ≡ some t → Unreserved s.deletion_reservations t.closure → Unreserved m t.closure)
+      → ((id : Text) (t : SnapshotLeaseToken) → lookup id s.leases ≡ Some t → Unreserved s.deletion_reservations t.closure → Unreserved m t.closure)
       → Kept n (core s) (core (set_deletion_reservations m s)) L
   with_reservations m free =
       let g = i.good in

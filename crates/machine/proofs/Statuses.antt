@@ -1,7 +1,6 @@
 -- Which numbers `apply` rejects with: 2 to 36, so never 1.
 -- Assumes nothing.
-use Rattle.std.specs.Prelude.{ℕ, ◌≤◌, ◌≡◌, Bool, true, false, ◌&&◌, leb}
-use Rattle.std.proofs.Math.Option.{none, some}
+use Rattle.std.specs.Prelude.{ℕ, ◌≤◌, ◌≡◌, Bool, true, false, ◌&&◌, leb, None, Some}
 use Rattle.std.proofs.Common.{leb-true}
 use Rattle.text.specs.SameLaws.{and_left, and_right}
 use Rattle.state.specs.Records.{AuthorityPosition, AuthorityContext, PublicationAuthorityFaults, State}
@@ -43,8 +42,8 @@ decide-status : (r : Rule) → Statuses r → (n : ℕ) → decide r ≡ rejecte
 unfolding decide
 decide-status (refuse_or x true r) h n e = let q : x ≡ n = cc in rw (← q) (provided (known x) _ h).0
 decide-status (refuse_or x false r) h n e = decide-status r (provided (known x) _ h).1 n e
-decide-status (find_or x none k) h n e = let q : x ≡ n = cc in rw (← q) (provided (known x) _ h).0
-decide-status (find_or x (some v) k) h n e = decide-status (k v) ((provided (known x) _ h).1 v) n e
+decide-status (find_or x None k) h n e = let q : x ≡ n = cc in rw (← q) (provided (known x) _ h).0
+decide-status (find_or x (Some v) k) h n e = decide-status (k v) ((provided (known x) _ h).1 v) n e
 decide-status (accept s o) h n e = not_rejected e
 
 stamp-status : (p : AuthorityPosition) (t : Transition) (n : ℕ) → stamp p t ≡ rejected n → t ≡ rejected n

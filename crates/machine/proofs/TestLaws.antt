@@ -1,9 +1,8 @@
 -- From a list of tests to the rule that it agrees with.
 -- Assumes nothing.
-use Rattle.std.specs.Prelude.{ℕ, ◌≡◌, refl, List, [], ◌∷◌, Bool, true, false, not, cond, ◌&&◌, eqb}
+use Rattle.std.specs.Prelude.{ℕ, ◌≡◌, refl, List, [], ◌∷◌, Bool, true, false, not, cond, ◌&&◌, eqb, Option, None, Some}
 use Rattle.std.proofs.Common.{sym, ◌∙◌, subst}
 use Rattle.std.proofs.Math.Path.{ap}
-use Rattle.std.proofs.Math.Option.{Option, none, some}
 use borrow.Author.Tests.{eqb-true, eqb-false, not-true}
 use Rattle.text.specs.SameLaws.{and_left, and_right}
 use Rattle.machine.specs.Actions.{Transition, rejected, Rule, refuse_or, find_or, accept, decide}
@@ -39,7 +38,7 @@ same_status n m = eqb n m && not (eqb n 0)
 abbrev pub Agrees : List Refusal → Rule → Type 0
 Agrees [] r = Unit {0}
 Agrees ((n when b) ∷ ts) (refuse_or m c r) = Provided (same_status n m) ((b ≡ c) × (c ≡ false → Agrees ts r))
-Agrees ((n when b) ∷ ts) (find_or {A = A} m o k) = Provided (same_status n m) ((b ≡ true → o ≡ none) × (b ≡ false → (v : A) × (o ≡ some v) × Agrees ts (k v)))
+Agrees ((n when b) ∷ ts) (find_or {A = A} m o k) = Provided (same_status n m) ((b ≡ true → o ≡ None) × (b ≡ false → (v : A) × (o ≡ Some v) × Agrees ts (k v)))
 Agrees ((n when b) ∷ ts) (accept s o) = ⊥
 
 -- a test, and those after it, which agree whether or not it was passed
@@ -51,7 +50,7 @@ pub ◌then◌ : {A B C : Type 0} → A → B → A × (C → B)
 abbrev pub Behind : Transition → List Refusal → Rule → Type 0
 Behind t [] r = decide r ≡ t
 Behind t ((n when b) ∷ ts) (refuse_or m c r) = Behind t ts r
-Behind t ((n when b) ∷ ts) (find_or {A = A} m o k) = (v : A) × (o ≡ some v) × Behind t ts (k v)
+Behind t ((n when b) ∷ ts) (find_or {A = A} m o k) = (v : A) × (o ≡ Some v) × Behind t ts (k v)
 Behind t ((n when b) ∷ ts) (accept s o) = ⊥
 
 abbrev pub Passed : List Refusal → Type 0

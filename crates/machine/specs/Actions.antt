@@ -1,6 +1,5 @@
 -- What a call asks, what it answers, and the chains of tests in between.
-use Rattle.std.specs.Prelude.{ℕ, List, Bool, true, false}
-use Rattle.std.proofs.Math.Option.{Option, none, some}
+use Rattle.std.specs.Prelude.{ℕ, List, Bool, true, false, Option, None, Some}
 use Rattle.state.specs.Maps.{Text}
 use Rattle.state.specs.Records.{ObjectIdentity, ObjectReference, PublicationIntent, SnapshotClosure, SnapshotLeaseToken, CollectionJobToken, CollectionReceipt, DeletePermit, State}
 
@@ -49,8 +48,8 @@ pub data Rule : Type 1 where
 unfoldable pub decide : Rule → Transition
 decide (refuse_or n true r) = rejected n
 decide (refuse_or n false r) = decide r
-decide (find_or n none k) = rejected n
-decide (find_or n (some x) k) = decide (k x)
+decide (find_or n None k) = rejected n
+decide (find_or n (Some x) k) = decide (k x)
 decide (accept s o) = accepted s o
 
 pub data Test : Type 0 where

@@ -1,7 +1,6 @@
 -- DEMAND 3, the statement: machines, their moments, and what is claimed of two moments.
-use Rattle.std.specs.Prelude.{ℕ, ◌+◌, ◌-◌, ◌^◌, ◌≤◌, ◌<◌, ◌≡◌, ◌↔◌, false, length, take}
+use Rattle.std.specs.Prelude.{ℕ, ◌+◌, ◌-◌, ◌^◌, ◌≤◌, ◌<◌, ◌≡◌, ◌↔◌, false, length, take, Option, Some}
 use mathlib.Core.List.{List, [], ◌∷◌, Memᴰ}
-use Rattle.std.proofs.Math.Option.{Option, some}
 use Rattle.state.specs.Maps.{Text, Map, lookup}
 use Rattle.state.specs.Records.{AuthorityContext, no_faults, State, SnapshotClosure, SnapshotLeaseToken, DeletePermit, names}
 use Rattle.machine.specs.Actions.{Action, Transition, rejected, accepted}
@@ -62,7 +61,7 @@ pub record Ordered (a : Five) : Type 0 where
 
 -- A closure names no reserved key: none under which a permit is stored.
 abbrev pub Unreserved : Map DeletePermit → SnapshotClosure → Type 0
-Unreserved reservations c = (key : Text) (p : DeletePermit) → lookup key reservations ≡ some p → names c key ≡ false
+Unreserved reservations c = (key : Text) (p : DeletePermit) → lookup key reservations ≡ Some p → names c key ≡ false
 
 -- THE CLAIMS, of two moments of one list of calls. At the first the state is s₁ and the ledger L₁; at the second, not before
 -- it, the image is x₂, the state s₂ and the ledger L₂. They are proved for every two moments, so what is said of the second
@@ -74,18 +73,18 @@ pub record Claims (M : Machine) (s₁ : State) (L₁ : Ledger) (x₂ : M.Image) 
   pub ordered₁ : Ordered (five_of s₁)
   pub ordered₂ : Ordered (five_of s₂)
   -- The version of each live lease, the one its first request asked for, is from minimum readable to frontier, both included.
-  pub in_range : (id : Text) (l : Lease) → lookup id L₂.live ≡ some l
+  pub in_range : (id : Text) (l : Lease) → lookup id L₂.live ≡ Some l
       → (s₂.minimum_readable_version ≤ l.version) × (l.version ≤ s₂.observed_commit_frontier)
   -- No call from here issues a delete permit for a key that a live lease names. The paper lets pass one that was stored since
   -- before the lease began; this is stronger, since no permit at all is issued: a stored one is never issued again.
-  pub no_permit : (id : Text) (l : Lease) → lookup id L₂.live ≡ some l
-      → (r : M.Request) (p : DeletePermit) → issued (M.told x₂ r) ≡ some p → names l.closure p.key ≡ false
+  pub no_permit : (id : Text) (l : Lease) → lookup id L₂.live ≡ Some l
+      → (r : M.Request) (p : DeletePermit) → issued (M.told x₂ r) ≡ Some p → names l.closure p.key ≡ false
   -- No live lease names a reserved key.
-  pub unreserved : (id : Text) (l : Lease) → lookup id L₂.live ≡ some l → Unreserved s₂.deletion_reservations l.closure
+  pub unreserved : (id : Text) (l : Lease) → lookup id L₂.live ≡ Some l → Unreserved s₂.deletion_reservations l.closure
   -- A shown token validates exactly when it spells the last token given for a lease that is live.
-  pub validates : (t : M.Token) → (M.check x₂ t ≡ 0) ↔ ((u : SnapshotLeaseToken) × (M.spells t ≡ some u) × Last u L₂)
+  pub validates : (t : M.Token) → (M.check x₂ t ≡ 0) ↔ ((u : SnapshotLeaseToken) × (M.spells t ≡ Some u) × Last u L₂)
   -- A token of a lease that had ended by the first moment validates at no later one, though its id be live anew.
-  pub never_again : (t : M.Token) (u : SnapshotLeaseToken) → M.spells t ≡ some u → Memᴰ u L₁.ended → M.check x₂ t ≡ 0 → ⊥
+  pub never_again : (t : M.Token) (u : SnapshotLeaseToken) → M.spells t ≡ Some u → Memᴰ u L₁.ended → M.check x₂ t ≡ 0 → ⊥
 
 -- They hold of every two moments of every list of fewer than 2^64 - 1 calls, the first of them on the image x: of moment i, and of
 -- the moment j calls later.
@@ -108,7 +107,7 @@ left s (accepted s' o) = s'
 
 abbrev pub said : Action → Transition → Event
 said a (rejected n) = refused
-said a (accepted s' o) = took (some a) (some o)
+said a (accepted s' o) = took (Some a) (Some o)
 
 abbrev pub maps : Machine
 maps = record {
@@ -118,6 +117,6 @@ maps = record {
   call = λ s r. left s (answered s r);
   told = λ s r. said r.action (answered s r);
   check = validate;
-  spells = λ t. some t;
+  spells = λ t. Some t;
   Holds = λ x s. x ≡ s;
 }

@@ -1,8 +1,7 @@
 -- The starred edges E2 to E10 of the scope paper, as rows of one table, by one theorem. (E1 is about the image.) Two rows more tell the
 -- order of ids by their bytes from one by their length, two the order in which ended leases are listed, and five are about reserved keys.
 -- Faults off, generation 1; window 3 and frontier 10 stand before every row.
-use Rattle.std.specs.Prelude.{ℕ, List, [], ◌∷◌, map, Bool, false, ◌&&◌, eqb, replicate, length}
-use Rattle.std.proofs.Math.Option.{Option, none, some}
+use Rattle.std.specs.Prelude.{ℕ, List, [], ◌∷◌, map, Bool, false, ◌&&◌, eqb, replicate, length, Option, None, Some}
 use Rattle.state.specs.Maps.{Text, Map, ◌⟼◌, key_of, before, same_texts, insert, is_empty}
 use Rattle.state.specs.Records.{AuthorityContext, no_faults, Manifest, ObjectIdentity, ObjectReference, SnapshotClosure, SnapshotLeaseToken, State, default}
 use Rattle.state.specs.Setters.{set_deletion_reservations, set_leases, set_lease_clock_tick}
@@ -23,28 +22,28 @@ status (accepted s o) = 0
 
 -- the state after calls that are all accepted
 abbrev next : Transition → Option State
-next (rejected n) = none
-next (accepted s o) = some s
+next (rejected n) = None
+next (accepted s o) = Some s
 
 abbrev step : Action → Option State → Option State
-step a none = none
-step a (some s) = next (answer s a)
+step a None = None
+step a (Some s) = next (answer s a)
 
 abbrev run : Option State → List Action → Option State
 run o [] = o
 run o (a ∷ calls) = run (step a o) calls
 
 abbrev start : Option State
-start = run (some default) (SetRetentionWindow 0 3 ∷ ObserveCommittedFrontier 10 ∷ [])
+start = run (Some default) (SetRetentionWindow 0 3 ∷ ObserveCommittedFrontier 10 ∷ [])
 
 -- accepted, with these ids in its outcome, and no lease is left
 abbrev ends_all : List Text → Transition → Bool
 ends_all l (rejected n) = false
-ends_all l (accepted s o) = same_texts (gives (some o)).ids l && is_empty s.leases
+ends_all l (accepted s o) = same_texts (gives (Some o)).ids l && is_empty s.leases
 
 abbrev test : (State → Bool) → Option State → Bool
-test p none = false
-test p (some s) = p s
+test p None = false
+test p (Some s) = p s
 
 abbrev pub keys : {A : Type 0} → Map A → List Text
 keys m = map key_of m
@@ -115,7 +114,7 @@ abbrev pub token : (version epoch deadline : ℕ) → SnapshotLeaseToken
 token version epoch deadline = token_under id version epoch deadline
 
 abbrev identity : ObjectIdentity
-identity = record { revision = record { e_tag = none; version = none }; length = 1; sha256 = hash }
+identity = record { revision = record { e_tag = None; version = None }; length = 1; sha256 = hash }
 
 abbrev reserve : (mark-epoch : ℕ) → Action
 reserve mark-epoch = ReserveDelete (112 ∷ []) mark-epoch key identity
@@ -137,9 +136,9 @@ root = 114 ∷ []
 -- a root with its manifest, set as the collection root, and a range map epoch: all that `collect` has to match
 abbrev collecting : List Action
 collecting =
-    Prepare (112 ∷ []) (record { object_keys = manifest.key ∷ []; manifest = manifest; destination_root = root; expected_prior_root = none })
-    ∷ Publish (112 ∷ []) root none manifest
-    ∷ ConfigureCollectionRoot none root
+    Prepare (112 ∷ []) (record { object_keys = manifest.key ∷ []; manifest = manifest; destination_root = root; expected_prior_root = None })
+    ∷ Publish (112 ∷ []) root None manifest
+    ∷ ConfigureCollectionRoot None root
     ∷ ObserveRangeMapEpoch 1
     ∷ []
 
@@ -203,7 +202,7 @@ table =
     ∷ answers_at (context 1 0 1) (ObserveCommittedFrontier 10) 0
     -- ids ascend by their bytes, not by their length: aa, then b
     ∷ precedes aa b
-    ∷ pins_are (Pin b none manifest ∷ Pin aa none manifest ∷ []) (aa ∷ b ∷ [])
+    ∷ pins_are (Pin b None manifest ∷ Pin aa None manifest ∷ []) (aa ∷ b ∷ [])
     -- leases that a tick ends: by deadline; by epoch where that is the same; by the bytes of the id where that is, too
     ∷ ends (lease_under b 7 9 ∷ lease_under aa 7 9 ∷ lease_under c 7 8 ∷ []) (AdvanceLeaseClock 0 9) (c ∷ b ∷ aa ∷ [])
     ∷ ends_loaded alike (AdvanceLeaseClock 0 5) (c ∷ aa ∷ b ∷ [])

@@ -1,8 +1,7 @@
 -- WELL-FORMED STATES: each map ascends strictly; leases, jobs and permits stand under their own id or key; every number fits
 -- its width; and every text and set passes a test that is left open here. The machine makes no new text, so any test is kept:
 -- that sets ascend, for states of the Rust; the limits and UTF-8 too, for states of an image.
-use Rattle.std.specs.Prelude.{ℕ, ◌<◌, ◌^◌, ◌≡◌, List}
-use Rattle.std.proofs.Math.Option.{Option, none, some}
+use Rattle.std.specs.Prelude.{ℕ, ◌<◌, ◌^◌, ◌≡◌, List, Option, None, Some}
 use Rattle.state.specs.Maps.{Text, Map, Every}
 use Rattle.state.specs.Sorted.{Each}
 use Rattle.state.specs.Sorted.{Ascending, Rising}
@@ -18,14 +17,14 @@ pub record Texts : Type 1 where
 
 -- what the Rust's types ask: nothing of a text, and that a set ascends strictly
 abbrev pub rust_texts : Texts
-rust_texts = record { Key = λ t. Unit {0}; Name = λ t. Unit {0}; Keys = Rising none }
+rust_texts = record { Key = λ t. Unit {0}; Name = λ t. Unit {0}; Keys = Rising None }
 
 abbrev pub Number : ℕ → Type 0
 Number n = n < 2 ^ 64
 
 abbrev pub Maybe : {A : Type 0} → (A → Type 0) → Option A → Type 0
-Maybe P none = Unit {0}
-Maybe P (some x) = P x
+Maybe P None = Unit {0}
+Maybe P (Some x) = P x
 
 pub record Table {A : Type 0} (P : Text → A → Type 0) (m : Map A) : Type 0 where
   pub ascending : Ascending m

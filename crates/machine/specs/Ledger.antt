@@ -1,6 +1,5 @@
 -- A history as its callers see it: what each call asked and answered. The ledger of leases is folded from these events alone.
-use Rattle.std.specs.Prelude.{ℕ, ◌≡◌, List, [], ◌∷◌, ◌++◌}
-use Rattle.std.proofs.Math.Option.{Option, none, some}
+use Rattle.std.specs.Prelude.{ℕ, ◌≡◌, List, [], ◌∷◌, ◌++◌, Option, None, Some}
 use Rattle.state.specs.Maps.{Text, Map, lookup, insert, remove}
 use Rattle.state.specs.Records.{SnapshotClosure, SnapshotLeaseToken, DeletePermit}
 use Rattle.machine.specs.Actions.{Action, ObserveCommittedFrontier, SetRetentionWindow, ObserveRangeMapEpoch, ConfigureCollectionRoot, AcquireLease, RenewLease, ReleaseLease, AdvanceLeaseClock, PrepareCollection, PublishCollection, AbandonCollection, Prepare, Publish, Pin, Unpin, ReserveDelete, RetireDelete, Outcome, Applied, DeleteReserved, LeaseAcquired, LeaseRenewed, LeasesExpired, CollectionPrepared, CollectionPublished}
@@ -20,18 +19,18 @@ abbrev pub gift : Option SnapshotLeaseToken → List Text → Option DeletePermi
 gift t ids p = record { token = t; ids = ids; permit = p }
 
 abbrev pub gives : Option Outcome → Gift
-gives (some (DeleteReserved p)) = gift none [] (some p)
-gives (some (LeaseAcquired t)) = gift (some t) [] none
-gives (some (LeaseRenewed t)) = gift (some t) [] none
-gives (some (LeasesExpired ids)) = gift none ids none
-gives (some Applied) = gift none [] none
-gives (some (CollectionPrepared t)) = gift none [] none
-gives (some (CollectionPublished r)) = gift none [] none
-gives none = gift none [] none
+gives (Some (DeleteReserved p)) = gift None [] (Some p)
+gives (Some (LeaseAcquired t)) = gift (Some t) [] None
+gives (Some (LeaseRenewed t)) = gift (Some t) [] None
+gives (Some (LeasesExpired ids)) = gift None ids None
+gives (Some Applied) = gift None [] None
+gives (Some (CollectionPrepared t)) = gift None [] None
+gives (Some (CollectionPublished r)) = gift None [] None
+gives None = gift None [] None
 
 -- the delete permit that a call issues
 abbrev pub issued : Event → Option DeletePermit
-issued refused = none
+issued refused = None
 issued (took a o) = (gives o).permit
 
 -- THE LEDGER
@@ -51,8 +50,8 @@ empty = record { live = []; ended = [] }
 
 -- An acceptance that gives no token adds none.
 abbrev pub add : Option SnapshotLeaseToken → List SnapshotLeaseToken → List SnapshotLeaseToken
-add none ts = ts
-add (some t) ts = t ∷ ts
+add None ts = ts
+add (Some t) ts = t ∷ ts
 
 abbrev pub with_token : Option SnapshotLeaseToken → Lease → Lease
 with_token t l = record { version = l.version; closure = l.closure; tokens = add t l.tokens }
@@ -63,24 +62,24 @@ put id l L = record { live = insert id l L.live; ended = L.ended }
 -- An accepted AcquireLease begins a lease where none is live under the id, with or without a token; where one is, that one stays, and a
 -- token given is one more of it.
 abbrev pub begun : ℕ → SnapshotClosure → Option Lease → Lease
-begun v c none = record { version = v; closure = c; tokens = [] }
-begun v c (some l) = l
+begun v c None = record { version = v; closure = c; tokens = [] }
+begun v c (Some l) = l
 
 abbrev pub begin : Text → ℕ → SnapshotClosure → Option SnapshotLeaseToken → Ledger → Ledger
 begin id v c t L = put id (with_token t (begun v c (lookup id L.live))) L
 
 -- An accepted RenewLease gives the live lease under its id a token.
 abbrev pub renew_found : Text → Option Lease → Option SnapshotLeaseToken → Ledger → Ledger
-renew_found id none t L = L
-renew_found id (some l) t L = put id (with_token t l) L
+renew_found id None t L = L
+renew_found id (Some l) t L = put id (with_token t l) L
 
 abbrev pub renew : Text → Option SnapshotLeaseToken → Ledger → Ledger
 renew id t L = renew_found id (lookup id L.live) t L
 
 -- A lease ends by an accepted release of its id, or an accepted AdvanceLeaseClock that lists its id.
 abbrev pub tokens_of : Option Lease → List SnapshotLeaseToken
-tokens_of none = []
-tokens_of (some l) = l.tokens
+tokens_of None = []
+tokens_of (Some l) = l.tokens
 
 abbrev pub end : Text → Ledger → Ledger
 end id L = record { live = remove id L.live; ended = tokens_of (lookup id L.live) ++ L.ended }
@@ -98,24 +97,24 @@ pub data Says : Type 0 where
   nothing : Says
 
 abbrev pub says : Option Action → Says
-says (some (AcquireLease id tenant version owner purpose deadline closure)) = begins id version closure
-says (some (RenewLease id epoch deadline)) = renews id
-says (some (ReleaseLease id epoch)) = releases id
-says (some (AdvanceLeaseClock expected next)) = ticks
-says (some (ObserveCommittedFrontier n)) = nothing
-says (some (SetRetentionWindow e w)) = nothing
-says (some (ObserveRangeMapEpoch e)) = nothing
-says (some (ConfigureCollectionRoot e r)) = nothing
-says (some (PrepareCollection j f i d r e n)) = nothing
-says (some (PublishCollection r)) = nothing
-says (some (AbandonCollection t)) = nothing
-says (some (Prepare p i)) = nothing
-says (some (Publish p d e m)) = nothing
-says (some (Pin p e m)) = nothing
-says (some (Unpin p e)) = nothing
-says (some (ReserveDelete p m k i)) = nothing
-says (some (RetireDelete p)) = nothing
-says none = nothing
+says (Some (AcquireLease id tenant version owner purpose deadline closure)) = begins id version closure
+says (Some (RenewLease id epoch deadline)) = renews id
+says (Some (ReleaseLease id epoch)) = releases id
+says (Some (AdvanceLeaseClock expected next)) = ticks
+says (Some (ObserveCommittedFrontier n)) = nothing
+says (Some (SetRetentionWindow e w)) = nothing
+says (Some (ObserveRangeMapEpoch e)) = nothing
+says (Some (ConfigureCollectionRoot e r)) = nothing
+says (Some (PrepareCollection j f i d r e n)) = nothing
+says (Some (PublishCollection r)) = nothing
+says (Some (AbandonCollection t)) = nothing
+says (Some (Prepare p i)) = nothing
+says (Some (Publish p d e m)) = nothing
+says (Some (Pin p e m)) = nothing
+says (Some (Unpin p e)) = nothing
+says (Some (ReserveDelete p m k i)) = nothing
+says (Some (RetireDelete p)) = nothing
+says None = nothing
 
 -- the ledger after what was said and given
 abbrev pub record_said : Says → Gift → Ledger → Ledger
@@ -138,5 +137,5 @@ pub record Last (t : SnapshotLeaseToken) (L : Ledger) : Type 0 where
   pub id : Text
   pub lease : Lease
   pub earlier : List SnapshotLeaseToken
-  pub live_now : lookup id L.live ≡ some lease
+  pub live_now : lookup id L.live ≡ Some lease
   pub is_last : lease.tokens ≡ t ∷ earlier

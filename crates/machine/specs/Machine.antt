@@ -1,8 +1,7 @@
 -- `apply` and `validate_active_snapshot_lease` of the Rust, over plain maps: one definition to a function, its tests in its order. What
--- document 02 adds to them is said where it is defined.
+-- the change requests add to them is said where it is defined.
 -- Where the Rust has `test && !faults.f` the flag stands first, so that the test computes away when the flag is known.
-use Rattle.std.specs.Prelude.{ℕ, List, Bool, false, not, cond, ◌&&◌, ◌||◌, leb, ltb, eqb}
-use Rattle.std.proofs.Math.Option.{Option, none, some}
+use Rattle.std.specs.Prelude.{ℕ, List, Bool, false, not, cond, ◌&&◌, ◌||◌, leb, ltb, eqb, Option, None, Some}
 use Rattle.state.specs.Maps.{Text, same, same_option, is_empty, is_some, contains, starts_with, ends_with_byte, any, lookup, has_key, any_value}
 use Rattle.state.specs.Records.{AuthorityPosition, AuthorityContext, ObjectIdentity, ObjectReference, PublicationIntent, PreparedPublication, SnapshotClosure, SnapshotLeaseToken, CollectionJobToken, CollectionReceipt, DeletePermit, PublicationAuthorityFaults, State, reference_eq, lease_eq, job_eq, permit_eq, is_manifest, names, valid_context, valid_identity, valid_reference, valid_intent, valid_closure, valid_receipt}
 use Rattle.state.specs.Setters.{set_revision}
@@ -100,11 +99,11 @@ prepare_collection s job_id frozen_floor input_manifest destination_root range_m
   refuse CollectionJobExists if has_key job_id s.collection_jobs
   refuse CollectionConflict if any_value (conflicts destination_root output_namespace) s.collection_jobs
   refuse RangeMapEpochMismatch if not faults.ignore_collection_range_epoch && not (eqb range_map_epoch s.range_map_epoch)
-  refuse CollectionRootCompareFailed if not (same_option same s.collection_root (some destination_root))
+  refuse CollectionRootCompareFailed if not (same_option same s.collection_root (Some destination_root))
   refuse CollectionFrontierMismatch if not (eqb expected_collected_through s.physically_collected_through)
   refuse CollectionFloorInvalid if leb frozen_floor s.physically_collected_through
   refuse CollectionFloorInvalid if ltb s.minimum_readable_version frozen_floor
-  refuse RootCompareFailed if not faults.ignore_collection_input_root && not (same_option reference_eq (lookup destination_root s.roots) (some input_manifest))
+  refuse RootCompareFailed if not faults.ignore_collection_input_root && not (same_option reference_eq (lookup destination_root s.roots) (Some input_manifest))
   let token = new_job job_id frozen_floor input_manifest destination_root range_map_epoch expected_collected_through output_namespace context
   accept (collection_prepared s token faults.advance_collection_without_publication) (CollectionPrepared token)
 
@@ -116,9 +115,9 @@ publish_collection s receipt generation faults = do
   refuse CollectionReceiptMismatch if not (job_eq prepared receipt.token)
   refuse CrossGenerationIntent if not (eqb prepared.owner_generation generation)
   refuse RangeMapEpochMismatch if not faults.ignore_collection_range_epoch && not (eqb prepared.range_map_epoch s.range_map_epoch)
-  refuse CollectionRootCompareFailed if not (same_option same s.collection_root (some prepared.destination_root))
+  refuse CollectionRootCompareFailed if not (same_option same s.collection_root (Some prepared.destination_root))
   refuse CollectionFrontierMismatch if not (eqb prepared.expected_collected_through s.physically_collected_through)
-  refuse RootCompareFailed if not faults.ignore_collection_input_root && not (same_option reference_eq (lookup prepared.destination_root s.roots) (some prepared.input_manifest))
+  refuse RootCompareFailed if not faults.ignore_collection_input_root && not (same_option reference_eq (lookup prepared.destination_root s.roots) (Some prepared.input_manifest))
   refuse ObjectDeletionReserved if any_reserved s receipt.object_keys
   accept (collection_published s prepared receipt.output_manifest) (CollectionPublished receipt)
 
@@ -147,8 +146,8 @@ intent_matches destination_root expected_prior_root manifest prepared =
 
 -- a stored record fails a test
 abbrev pub fails : {A : Type 0} → (A → Bool) → Option A → Bool
-fails test none = false
-fails test (some x) = not (test x)
+fails test None = false
+fails test (Some x) = not (test x)
 
 unfoldable pub publish : State → Text → Text → Option ObjectReference → ObjectReference → ℕ → PublicationAuthorityFaults → Rule
 publish s publication-id destination_root expected_prior_root manifest generation faults = do
@@ -175,7 +174,7 @@ unfoldable pub unpin : State → Text → ObjectReference → Rule
 unpin s pin-id expected = do
   refuse InvalidRequest if is_empty pin-id
   refuse InvalidRequest if not (valid_reference expected)
-  refuse PinCompareFailed if not (same_option reference_eq (lookup pin-id s.pins) (some expected))
+  refuse PinCompareFailed if not (same_option reference_eq (lookup pin-id s.pins) (Some expected))
   accept (unpinned s pin-id) Applied
 
 unfoldable pub reserve_delete : State → Text → ℕ → Text → ObjectIdentity → AuthorityContext → PublicationAuthorityFaults → Rule
@@ -236,8 +235,8 @@ apply s action context faults = stamp context.position (decide (rule s action co
 
 -- validate_active_snapshot_lease: 0 is Ok, 1 to 4 the errors in declared order
 unfoldable pub validate_found : State → SnapshotLeaseToken → Option SnapshotLeaseToken → ℕ
-validate_found s token none = 2
-validate_found s token (some active) = cond (lease_eq active token) (cond (leb token.deadline_tick s.lease_clock_tick) 4 0) 3
+validate_found s token None = 2
+validate_found s token (Some active) = cond (lease_eq active token) (cond (leb token.deadline_tick s.lease_clock_tick) 4 0) 3
 
 unfoldable pub validate : State → SnapshotLeaseToken → ℕ
 validate s token = cond (eqb s.format_version 1) (validate_found s token (lookup token.lease_id s.leases)) 1

@@ -1,7 +1,6 @@
 -- What each acceptance makes: the tokens and the permit that it gives, and the next state, each under one name.
 -- `revision` is set by `apply` itself.
-use Rattle.std.specs.Prelude.{ℕ, suc, ◌-◌, ◌^◌, min, max, List, [], ◌∷◌, map, Bool, cond, ◌&&◌, ◌||◌, leb, ltb, eqb}
-use Rattle.std.proofs.Math.Option.{Option, none, some}
+use Rattle.std.specs.Prelude.{ℕ, suc, ◌-◌, ◌^◌, min, max, List, [], ◌∷◌, map, Bool, cond, ◌&&◌, ◌||◌, leb, ltb, eqb, Option, None, Some}
 use Rattle.state.specs.Maps.{Text, Entry, Map, ◌⟼◌, key_of, before, insert, remove, remove_all, entries_where}
 use Rattle.state.specs.Sort.{sort}
 use Rattle.state.specs.Records.{AuthorityContext, ObjectIdentity, ObjectReference, PreparedPublication, SnapshotClosure, SnapshotLeaseToken, CollectionJobToken, DeletePermit, State}
@@ -33,12 +32,12 @@ oldest floor [] = floor
 oldest floor ((id ⟼ lease) ∷ m) = min lease.snapshot_version (oldest floor m)
 
 unfoldable pub policy_for : Option ℕ → (frontier old : ℕ) → ℕ
-policy_for none frontier old = old
-policy_for (some window) frontier old = max old (frontier - window)
+policy_for None frontier old = old
+policy_for (Some window) frontier old = max old (frontier - window)
 
 unfoldable pub readable_for : Option ℕ → (policy : ℕ) (leases : Map SnapshotLeaseToken) (old : ℕ) → ℕ
-readable_for none policy leases old = old
-readable_for (some window) policy leases old = max old (oldest policy leases)
+readable_for None policy leases old = old
+readable_for (Some window) policy leases old = max old (oldest policy leases)
 
 abbrev pub recompute_read_floor : State → State
 recompute_read_floor s =
@@ -57,7 +56,7 @@ frontier_observed s frontier =
 abbrev pub window_set : State → ℕ → State
 window_set s window =
     s
-    ▸ set_retention_window (some window)
+    ▸ set_retention_window (Some window)
     ▸ set_retention_policy_epoch (up s.retention_policy_epoch)
     ▸ recompute_read_floor
 
@@ -67,7 +66,7 @@ range_map_observed s epoch = s ▸ set_range_map_epoch epoch
 abbrev pub root_configured : State → Text → State
 root_configured s root =
     s
-    ▸ set_collection_root (some root)
+    ▸ set_collection_root (Some root)
     ▸ bump_root
 
 -- LEASES: `omit` is the flag omit_lease_root_epoch

@@ -1,10 +1,13 @@
 -- A call whose image was opened and whose request was read: from what the rule of its action says to what the call answers.
-use Rattle.std.specs.Prelude.{ℕ, true, List, ◌≡◌, eqb, length, ◌≤◌}
-use Rattle.std.proofs.Math.Option.{some}
+use Rattle.std.specs.Prelude.{ℕ, true, List, ◌≡◌, eqb, length, ◌≤◌, Some, Result, Err}
+use Rattle.std.specs.Result.{IsErrAnd}
 use Rattle.std.proofs.Common.{sym, ap, ◌∙◌, subst}
-use Rattle.parts.specs.Answer.{longest, Answer, no, settle, applied_of, Gave, gave_no}
+use Rattle.refusals.specs.Numbers.{number}
+use Rattle.refusals.specs.declared.Refusal.{Refusal}
+use Rattle.parts.specs.Answer.{longest, Answer, no, settle, Gave, gave_no, gave_exit}
 use Rattle.parts.specs.Gather.{gather_of}
-use Rattle.parts.specs.declared.Applied.{Applied}
+use Rattle.parts.specs.declared.Part.{Part}
+use Rattle.parts.specs.declared.Lengths.{Lengths}
 use Rattle.state.specs.Records.{State, valid_context}
 use Rattle.state.specs.Setters.{set_revision}
 use Rattle.machine.specs.Actions.{Outcome, Transition, rejected, accepted, decide}
@@ -25,13 +28,15 @@ use Rattle.requests.specs.declared.Request.{Request as RequestAt}
 use Rattle.entries.specs.Bytes.{settled, apply_bytes}
 use Rattle.next.specs.Emit.{Emitted}
 use Rattle.next.specs.Outcome.{outcome_bytes}
+use Rattle.next.specs.declared.Call.{Call}
 use Rattle.next.specs.declared.PublicationOutcome.{PublicationOutcome}
+use Rattle.requests.specs.declared.PublicationAction.{PublicationAction}
 
 -- what `apply` knows when it calls a transition: the image's state, in whatever form it was read; that the contents hold it;
 -- the request's value; and that format and context passed
 pub record Ready (x : List ℕ) (c : Contents) (q : List ℕ) (r : RequestAt) : Type 0 where
   pub state : State
-  pub reads : decode_image x ≡ some state
+  pub reads : decode_image x ≡ Some state
   pub formed : Formed state
   pub holds : Holds x c state
   pub short : length x ≤ longest
@@ -42,6 +47,17 @@ pub record Ready (x : List ℕ) (c : Contents) (q : List ℕ) (r : RequestAt) : 
   pub format : eqb state.format_version 1 ≡ true
   pub valid : valid_context (context_of r.context) ≡ true
 
+-- a call that asks for an action
+abbrev pub asking : Call → PublicationAction → RequestAt
+asking call a = record { context = call.context; faults = call.faults; action = a }
+
+abbrev pub Asks : Call → PublicationAction → Type 0
+Asks call a = Ready call.image.now call.contents call.request.now (asking call a)
+
+-- what it answered, lent d and e, and what it left in them
+abbrev pub Answers : Call → (d e : List ℕ) → Result Lengths Refusal → (d' e' : List ℕ) → Type 0
+Answers call d e r d' e' = Gave (apply_bytes call.image.now call.request.now (length d) (length e)) d e r d' e'
+
 module _ {x : List ℕ} {c : Contents} {q : List ℕ} {r : RequestAt} (ready : Ready x c q r) where
   -- what the rule of the action decides
   abbrev pub ruled : Transition
@@ -51,12 +67,19 @@ module _ {x : List ℕ} {c : Contents} {q : List ℕ} {r : RequestAt} (ready : R
   unfolding apply_bytes
   answered room outcome_room = rw (ready.reads, ready.asked)
 
-  pub refused : {d e : List ℕ} {p : Applied} (n : ℕ) → ruled ≡ rejected n → p ≡ applied_of (no n) → Gave (apply_bytes x q (length d) (length e)) d e p d e
-  refused {d} {e} {p} n h k =
-      gave_no n (answered (length d) (length e) ∙ ap (λ (t : Transition). settled (length d) (length e) (answer t))
-      (apply_rejects ready.state (action_of q r.action) (context_of r.context) (faults_of r.faults) ready.format ready.valid n h)) k
+  rejected_as : (n room outcome_room : ℕ) → ruled ≡ rejected n → apply_bytes x q room outcome_room ≡ no n
+  rejected_as n room outcome_room h =
+      answered room outcome_room ∙ ap (λ (t : Transition). settled room outcome_room (answer t))
+      (apply_rejects ready.state (action_of q r.action) (context_of r.context) (faults_of r.faults) ready.format ready.valid n h)
 
-  pub done : {d e d' e' : List ℕ} {p : Applied} (t : State) (o : Outcome) (from : List ℕ) (c' : Contents) (body stored : List ℕ) (told : PublicationOutcome) → ruled ≡ accepted t o
+  pub refused : {d e : List ℕ} (n : Refusal) → ruled ≡ rejected (number n) → Gave (apply_bytes x q (length d) (length e)) d e (Err n) d e
+  refused {d} {e} n h = gave_no n (rejected_as (number n) (length d) (length e) h)
+
+  -- at the exit of a `?`, where p is the error that it makes
+  pub refused_exit : {d e : List ℕ} {p : Result Lengths Refusal} (n : Refusal) → IsErrAnd p (λ y. y ≡ n) → ruled ≡ rejected (number n) → Gave (apply_bytes x q (length d) (length e)) d e p d e
+  refused_exit {d} {e} n k h = gave_exit n k (rejected_as (number n) (length d) (length e) h)
+
+  pub done : {d e d' e' : List ℕ} {p : Result Lengths Refusal} (t : State) (o : Outcome) (from : List ℕ) (c' : Contents) (body : List Part) (stored : List ℕ) (told : PublicationOutcome) → ruled ≡ accepted t o
       → Shows from c' (set_revision (context_of r.context).position t)
       → gather_of x q body ≡ joined (tables_of t)
       → outcome_bytes stored q told ≡ encode_outcome o

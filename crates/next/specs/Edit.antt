@@ -1,20 +1,19 @@
 -- A change by id of one table of the image: what stands at the place, the runs around it, and the table's size and count after it.
-use Rattle.std.specs.Prelude.{ℕ, suc, ◌+◌, ◌-◌, ◌≤◌, ◌<◌, min, cond, ◌≡◌, ltb, drop}
+use Rattle.std.specs.Prelude.{ℕ, suc, ◌+◌, ◌-◌, ◌≤◌, ◌<◌, min, cond, ◌≡◌, ltb, drop, None, Some}
 use Rattle.std.proofs.Common.{arith, sym, ◌∙◌, length-drop, length-take, ltb-true, ltb-false}
 use mathlib.Core.List.{List, [], ◌∷◌, ◌++◌, append_assoc, append-nil}
-use Rattle.std.proofs.Math.Option.{none, some}
 use Rattle.std.proofs.Math.Path.{refl, ap}
 use Rattle.std.proofs.Math.ListN.{length, length-append}
 use Rattle.text.specs.Order.{order_of}
 use Rattle.text.proofs.OrderLaws.{order_equal}
-use Rattle.text.specs.declared.Order.TheVariants.{Less, Equal, Greater}
+use Rattle.std.specs.declared.cmp.Ordering.TheVariants.{Less, Equal, Greater}
 use Rattle.parts.specs.Gather.{run}
 use Rattle.state.specs.Maps.{Text, Map, Entry, ◌⟼◌, key_of, Every, lookup, insert, remove, side}
 use Rattle.state.proofs.MapLaws.{by_test}
 use Rattle.state.specs.Sorted.{Ascending}
 use Rattle.state.proofs.Places.{ahead, at, behind, split_is, insert-is, remove-is, first_value, lookup-is}
 use Rattle.fields.specs.Format.{all}
-use Rattle.fields.specs.Codes.{Code}
+use Rattle.fields.specs.declared.Code.{Code}
 use Rattle.tables.specs.Seek.{Seen, seek, placed}
 use Rattle.tables.specs.SeekLaws.{Hopped}
 use Rattle.tables.specs.declared.Place.{Place}
@@ -41,8 +40,8 @@ module _ (x : List ℕ) (seen : Seen) (p : Place) (found : p ≡ placed x seen) 
 -- ---- what stands under a key
 
 pub data Standing {A : Type 0} (k : Text) (m : Map A) : Type 0 where
-  absent : at k m ≡ [] → lookup k m ≡ none → Standing k m
-  present : (v : A) → at k m ≡ (k ⟼ v) ∷ [] → lookup k m ≡ some v → Standing k m
+  absent : at k m ≡ [] → lookup k m ≡ None → Standing k m
+  present : (v : A) → at k m ≡ (k ⟼ v) ∷ [] → lookup k m ≡ Some v → Standing k m
 
 data Here {A : Type 0} (k : Text) (l : Map A) : Type 0 where
   nothing : l ≡ [] → Here k l
@@ -164,22 +163,22 @@ module _ {A : Type 0} {write : Entry A → List ℕ} {x : List ℕ} {i : ℕ} {b
   run_row = run-to x at_it (after_it ++ r) place.start (place.end - place.start) from_place (omega (arith, start_is, end_is))
 
   -- WHETHER A ROW STANDS THERE: a row has a byte at least
-  pub none-there : place.end ≤ place.start → (at k m ≡ []) × (lookup k m ≡ none)
+  pub none-there : place.end ≤ place.start → (at k m ≡ []) × (lookup k m ≡ None)
   unfolding all
   none-there h = go (standing k m z.ascending)
     where
-      go : Standing k m → (at k m ≡ []) × (lookup k m ≡ none)
+      go : Standing k m → (at k m ≡ []) × (lookup k m ≡ None)
       go (absent e l) = (e, l)
       go (present v e l) =
           let n : length at_it ≡ length (write (k ⟼ v) ++ []) = ap (λ (l : Map A). length (all write l)) e in
           let o = length-append (write (k ⟼ v)) [] in
           absurd (omega (arith, z.long (k ⟼ v), start_is, end_is))
 
-  pub some_there : place.start < place.end → (v : A) × (at k m ≡ (k ⟼ v) ∷ []) × (lookup k m ≡ some v)
+  pub some_there : place.start < place.end → (v : A) × (at k m ≡ (k ⟼ v) ∷ []) × (lookup k m ≡ Some v)
   unfolding all
   some_there h = go (standing k m z.ascending)
     where
-      go : Standing k m → (v : A) × (at k m ≡ (k ⟼ v) ∷ []) × (lookup k m ≡ some v)
+      go : Standing k m → (v : A) × (at k m ≡ (k ⟼ v) ∷ []) × (lookup k m ≡ Some v)
       go (present v e l) = (v, e, l)
       go (absent e l) = let n : length at_it ≡ 0 = ap (λ (l : Map A). length (all write l)) e in absurd (omega (arith, start_is, end_is))
 

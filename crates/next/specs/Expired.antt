@@ -6,13 +6,14 @@ use mathlib.Core.List.{List, [], ◌∷◌, ◌++◌, map}
 use Rattle.std.proofs.Math.Path.{refl, ap}
 use Rattle.std.proofs.lemmas.List.{length-map}
 use Rattle.text.specs.Order.{order_of}
-use Rattle.text.specs.declared.Order.TheVariants.{Less}
+use Rattle.std.specs.declared.cmp.Ordering.TheVariants.{Less}
 use Rattle.state.specs.Maps.{Entry, Map, ◌⟼◌, key_of, value_of, is_less, before, select, Every}
 use Rattle.state.specs.Sort.{sort, Pairs}
 use Rattle.state.proofs.SortLaws.{rearranged_back, rearranged_length, rearranged_every, pairs_weaker, select-few, every-select, pairs_select, map-select, sort_rearranged, sort-map}
 use Rattle.state.specs.Records.{SnapshotLeaseToken}
 use Rattle.fields.specs.Format.{enc_text, all}
-use Rattle.fields.specs.Codes.{Code, codes, past, passed, skip}
+use Rattle.fields.specs.Codes.{codes, past, passed, skip}
+use Rattle.fields.specs.declared.Code.{Code}
 use Rattle.fields.specs.Rows.{text_here}
 use Rattle.fields.specs.Walks.{place_of, Rest}
 use Rattle.fields.proofs.WalkLaws.{rest-drop, rest_trans, rest-place}
@@ -48,11 +49,11 @@ WholeId r = id_of r ≡ enc_text (text_here r)
 -- ---- a row and the lease in it
 
 deadline_in : (r : List ℕ) → (value_of (lease_in r)).deadline_tick ≡ deadline_of r
-unfolding peek skip past passed codes
+unfolding peek skip past passed
 deadline_in r = refl
 
 epoch_in : (r : List ℕ) → (value_of (lease_in r)).lease_epoch ≡ epoch_of r
-unfolding peek skip past passed codes
+unfolding peek skip past passed
 epoch_in r = refl
 
 id_in : (r : List ℕ) → key_of (lease_in r) ≡ text_here r

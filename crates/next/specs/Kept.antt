@@ -1,9 +1,9 @@
 -- What a transition keeps of the old image: its tables as they stand, and contents with other numbers or another table.
-use Rattle.std.specs.Prelude.{ℕ, ◌≤◌, List, [], ◌∷◌, ◌≡◌, length, take, drop, get_or}
+use Rattle.std.specs.Prelude.{ℕ, ◌≤◌, List, [], ◌∷◌, ◌≡◌, length, take, drop, get_or, Option, None, Some}
 use Rattle.std.proofs.Common.{arith, append-nil, sym, ap, ◌∙◌, subst, length-append, length-drop, take_all}
-use Rattle.std.proofs.Math.Option.{Option, none, some}
 use Rattle.parts.specs.Answer.{longest}
 use Rattle.parts.specs.Gather.{run, gather_of}
+use Rattle.parts.specs.declared.Part.TheVariants.{First}
 use Rattle.state.specs.Maps.{Text}
 use Rattle.state.specs.Records.{State}
 use Rattle.fields.specs.Format.{enc_option, enc_text, TextOk, Maybe}
@@ -24,7 +24,7 @@ run-rest x r p n e h = ap (take n) e ∙ take_all n r (let l = ap length (sym e)
 
 -- ---- ALL TABLES AS THEY WERE: one run
 module _ {x : List ℕ} {c : Contents} {s : State} (h : Holds x c s) where
-  pub whole-tables : (q : List ℕ) → gather_of x q (0 ∷ tables_place c ∷ length x ∷ []) ≡ joined (tables_of s)
+  pub whole-tables : (q : List ℕ) → gather_of x q (First (tables_place c) (length x) ∷ []) ≡ joined (tables_of s)
   whole-tables q = append-nil (run x (tables_place c) (length x)) ∙ run-rest x (joined (tables_of s)) (tables_place c) (length x) (tables_here h) (omega arith)
 
   -- ---- A NUMBER, by its place in the list
@@ -41,8 +41,8 @@ joined-low n (t ∷ ts) h k = let l = length-append t.bytes (joined ts) in (omeg
 
 root-low : (o : Option Text) → Maybe (TextOk short) o → length (enc_option enc_text o) ≤ 66
 unfolding enc_option enc_text
-root-low none h = omega arith
-root-low (some t) h = omega (arith, h.fits)
+root-low None h = omega arith
+root-low (Some t) h = omega (arith, h.fits)
 
 pub small-held : {x : List ℕ} {c : Contents} {s : State} → Formed s → Holds x c s → length x ≤ longest → Small c
 small-held {x} {c} {s} f h l =
@@ -50,7 +50,6 @@ small-held {x} {c} {s} f h l =
     record {
       root = omega (arith, h.shows.root_size, root-low s.collection_root f.fits.0.1.1.1.1.1.1.1.1.1.1.1);
       tables = subst Light (sym h.shows.tables) (joined-low longest (tables_of s) (omega arith) (omega arith));
-      six = sym (length-measures c.tables) ∙ ap length h.shows.tables;
     }
 
 -- ---- CONTENTS WITH OTHER SCALARS show the state with other scalars, where its tables and its version are the same
@@ -58,4 +57,4 @@ abbrev pub with_scalars : Contents → Scalars → Contents
 with_scalars c n = record { format_version = c.format_version; scalars = n; tables = c.tables }
 
 pub small-scalars : {c : Contents} → Small c → (n : Scalars) → root_width n.collection_root ≤ 65 → Small (with_scalars c n)
-small-scalars k n h = record { root = h; tables = k.tables; six = k.six }
+small-scalars k n h = record { root = h; tables = k.tables }

@@ -58,5 +58,4 @@ pub small-table : {c : Contents} → Small c → (i : ℕ) (t : Table) → t.siz
 small-table {c} k i t h = record {
   root = k.root;
   tables = subst Light (sym (measures-set c.tables i t)) (light_set (measures_in c.tables) i (measure_in t) k.tables h);
-  six = length-set c.tables i t ∙ k.six;
 }

@@ -1,6 +1,5 @@
 -- The test of an image over bytes is that of what its bytes decode to.
-use Rattle.std.specs.Prelude.{ℕ, List, ◌≡◌, refl}
-use Rattle.std.proofs.Math.Option.{Option, none, some}
+use Rattle.std.specs.Prelude.{ℕ, List, ◌≡◌, refl, Option, None, Some}
 use Rattle.state.specs.Records.{State}
 use Rattle.image.specs.Contents.{answer}
 use Rattle.image.specs.Layout.{decode_image}
@@ -12,5 +11,5 @@ unfolding test_bytes
 test-bytes x = go (decode_image x)
   where
     go : (o : Option State) → test_of o ≡ status (◌>>=◌ (or_40 o) (λ s. answer 0))
-    go none = refl
-    go (some s) = refl
+    go None = refl
+    go (Some s) = refl

@@ -13,9 +13,16 @@ pub extern "C" fn okv_default(image: &mut [u8], length: &mut usize) -> u32
     ensures size { length.new ≡ size_of (image_of (default_bytes (size_of image.old))) }
     ensures bytes { image.new ≡ over image.old 0 (image_of (default_bytes (size_of image.old))) }
 {
-    let w = image::default_image(image);
-    *length = w.length;
-    w.status
+    match image::default_image(image) {
+        Ok(n) => {
+            *length = n;
+            0
+        }
+        Err(e) => {
+            *length = 0;
+            e.number()
+        }
+    }
 }
 
 // Whether the bytes are an image: 0 or 40.
@@ -23,7 +30,10 @@ pub extern "C" fn okv_default(image: &mut [u8], length: &mut usize) -> u32
 pub extern "C" fn okv_test(image: &[u8]) -> u32
     ensures { result ≡ test_bytes image.now }
 {
-    image::test_image(image)
+    match image::test_image(image) {
+        Ok(()) => 0,
+        Err(e) => e.number(),
+    }
 }
 
 // Whether a lease token is the active one: 0, 1 to 4, or 40 to 43.
@@ -31,7 +41,10 @@ pub extern "C" fn okv_test(image: &[u8]) -> u32
 pub extern "C" fn okv_validate(image: &[u8], token: &[u8]) -> u32
     ensures { result ≡ validate_bytes image.now token.now }
 {
-    validation::validate_active_snapshot_lease(image, token)
+    match validation::validate_active_snapshot_lease(image, token) {
+        Ok(()) => 0,
+        Err(e) => e.number(),
+    }
 }
 
 // Applies a request: 0 and the two lengths, or a refusal's number, lengths 0 and no byte changed.
@@ -50,8 +63,16 @@ pub extern "C" fn okv_apply(
     ensures bytes { next.new ≡ over next.old 0 (image_of (apply_bytes image.now request.now (size_of next.old) (size_of outcome.old))) }
     ensures outcome { outcome.new ≡ over outcome.old 0 (outcome_of (apply_bytes image.now request.now (size_of next.old) (size_of outcome.old))) }
 {
-    let a = transition::apply(image, request, next, outcome);
-    *image_length = a.image;
-    *outcome_length = a.outcome;
-    a.status
+    match transition::apply(image, request, next, outcome) {
+        Ok(lengths) => {
+            *image_length = lengths.image;
+            *outcome_length = lengths.outcome;
+            0
+        }
+        Err(e) => {
+            *image_length = 0;
+            *outcome_length = 0;
+            e.number()
+        }
+    }
 }

@@ -1,14 +1,15 @@
 -- What the program hands on from frame to frame, and what it prints of each.
-use Rattle.std.specs.Prelude.{ℕ, List, [], ◌∷◌, ◌≡◌, length}
-use Rattle.std.proofs.Math.Option.{Option, none, some}
-use Rattle.parts.specs.Answer.{Answer, status_of}
+use Rattle.std.specs.Prelude.{ℕ, ◌≤◌, List, [], ◌∷◌, ◌++◌, ◌≡◌, length, take, Option, None, Some}
+use Rattle.std.specs.Fmt.{decimal}
+use Rattle.parts.specs.Answer.{Answer}
 use Rattle.parts.specs.Digits.{Bytes}
 use Rattle.state.specs.Maps.{Every}
 use Rattle.state.specs.Records.{State, default}
 use Rattle.image.specs.Layout.{encode_image, decode_image}
 use Rattle.entries.specs.Bytes.{apply_bytes}
 use Rattle.entries.specs.ByteHistory.{left_by as left}
-use Rattle.okvstep.specs.declared.Stepped.{Stepped}
+use Rattle.okvstep.specs.declared.Line.{Line}
+use Rattle.okvstep.specs.declared.Authority.{Authority}
 
 -- the bytes that it lends for an image, and for an outcome
 abbrev pub room : ℕ
@@ -35,20 +36,51 @@ pub record Moment (n : ℕ) (x : List ℕ) : Type 0 where
 
 -- THE LINE of a frame: its number, the number answered, and six numbers of the state after it. Bytes that hold no state have
 -- zeros: `moment_holds` says that there is a state at every moment.
-abbrev pub numbers_of : Option State → List ℕ
-numbers_of none = 0 ∷ 0 ∷ 0 ∷ 0 ∷ 0 ∷ 0 ∷ []
-numbers_of (some s) =
-    s.observed_commit_frontier
-    ∷ s.policy_floor
-    ∷ s.minimum_readable_version
-    ∷ s.physically_collected_through
-    ∷ s.lease_clock_tick
-    ∷ s.root_intent_epoch
-    ∷ []
+abbrev pub line_showing : (step status : ℕ) → Option State → Line
+line_showing step status None = record {
+  step = step;
+  status = status;
+  frontier = 0;
+  policy = 0;
+  readable = 0;
+  collected = 0;
+  clock = 0;
+  epoch = 0;
+}
+line_showing step status (Some s) = record {
+  step = step;
+  status = status;
+  frontier = s.observed_commit_frontier;
+  policy = s.policy_floor;
+  readable = s.minimum_readable_version;
+  collected = s.physically_collected_through;
+  clock = s.lease_clock_tick;
+  epoch = s.root_intent_epoch;
+}
 
-abbrev pub line_of : (frame status : ℕ) (image : List ℕ) → List ℕ
-line_of frame status x = frame ∷ status ∷ numbers_of (decode_image x)
+abbrev pub line_of : (step status : ℕ) (image : List ℕ) → Line
+line_of step status x = line_showing step status (decode_image x)
 
--- what a frame gives whose request has the answer A on the image x
-abbrev pub stepped_of : ℕ → List ℕ → Answer → Stepped
-stepped_of frame x A = record { size = length (left x A); line = line_of frame (status_of A) (left x A) }
+-- numbers in decimal, one space apart
+abbrev pub spaced : ℕ → List ℕ → List ℕ
+spaced n [] = decimal n
+spaced n (m ∷ ms) = decimal n ++ 32 ∷ spaced m ms
+
+-- what is printed of a line
+abbrev pub line_text : Line → List ℕ
+line_text l = spaced l.step (l.status ∷ l.frontier ∷ l.policy ∷ l.readable ∷ l.collected ∷ l.clock ∷ l.epoch ∷ [])
+
+-- THE AUTHORITY between frames: its image, and what it answers to a request
+abbrev pub image_at : Authority → List ℕ
+image_at a = take a.size a.image
+
+abbrev pub answered_at : Authority → (request : List ℕ) → Answer
+answered_at a q = answered (image_at a) q
+
+-- the image that the request leaves
+abbrev pub left_at : Authority → (request : List ℕ) → List ℕ
+left_at a q = left (image_at a) (answered_at a q)
+
+-- it is at a moment, that of its frames
+abbrev pub AtMoment : Authority → Type 0
+AtMoment a = Moment a.frames (image_at a) × (a.size ≤ room)

@@ -1,90 +1,76 @@
 // Steps the authority from its default state by the frames of standard input: a length of 4 bytes, and a request.
-// Prints a header, a line for each frame, and `end`, or `end bad` at a frame that is cut or longer than 8,192 bytes.
+// Prints a header, a line for each frame, and `end`, or `end bad` at a frame that is cut, longer than 8,192 bytes or not
+// to be read.
 #![tactic(auto)]
 
-ghost use Rattle.std.specs.Prelude.{◌≡◌, ◌+◌, ◌-◌, ◌^◌, ◌<◌, ◌≤◌, length, take};
-ghost use Rattle.parts.specs.Answer.{image_of};
+ghost use Rattle.std.specs.Prelude.{◌≡◌, ◌+◌, ◌-◌, ◌^◌, ◌<◌, ◌≤◌, length, take, Some};
+ghost use Rattle.parts.specs.Answer.{image_of, status_of};
 ghost use Rattle.parts.specs.Over.{over};
-ghost use Rattle.okvstep.specs.Moments.{room, outcome_room, answered, Moment, line_of, stepped_of};
+ghost use Rattle.okvstep.specs.Moments.{room, line_of, line_text, image_at, answered_at, left_at, AtMoment};
 
-// The numbers of the standard input and output.
-const STDIN: i32 = 0;
+use std::io::{BufRead, Read};
+use std::{fmt, io};
 
-const STDOUT: i32 = 1;
+// The bytes that are lent for an image, for an outcome and for a request.
+const ROOM: usize = 16384;
+
+const OUTCOME_ROOM: usize = 8192;
+
+const REQUEST_ROOM: usize = 8192;
 
 // A run steps no more frames than the claims of a history speak of: fewer than 2^64 - 1.
-const MOST_FRAMES: u64 = 18446744073709551614;
+const MOST_FRAMES: u64 = u64::MAX - 1;
 
-fn write(s: &[u8]) {
-    io::write_all(STDOUT, s);
+// What is printed of a frame: its number, the number answered, and six numbers of the state after it.
+#[derive(Clone, Copy)]
+struct Line {
+    step: u64,
+    status: u32,
+    frontier: u64,
+    policy: u64,
+    readable: u64,
+    collected: u64,
+    clock: u64,
+    epoch: u64,
 }
 
-fn write_number(n: u64) {
-    io::print_decimal(STDOUT, n);
-}
+impl fmt::Display for Line {
+    ghost output = { λ l. Some (line_text l) };
 
-// The fields of a line in their order, one space apart.
-fn write_line(line: [u64; 8]) {
-    write_number(line[0]);
-    let mut i = 1;
-    while i < 8 {
-        write(b" ");
-        write_number(line[i]);
-        i += 1;
+    fn fmt<W: fmt::Write>(&self, f: &mut fmt::Formatter<W>) -> fmt::Result {
+        let Line {
+            step,
+            status,
+            frontier,
+            policy,
+            readable,
+            collected,
+            clock,
+            epoch,
+        } = *self;
+        write!(
+            f,
+            "{step} {status} {frontier} {policy} {readable} {collected} {clock} {epoch}"
+        )
     }
-    write(b"\n");
 }
 
 // The line of a frame, with the numbers of the state that the image holds: there is one at every moment.
-fn line_of(frame: u64, status: u32, image: &[u8]) -> [u64; 8]
-    ensures { result ≡ line_of frame status image.now }
+fn line_of(step: u64, status: u32, image: &[u8]) -> Line
+    ensures { result ≡ line_of step status image.now }
 {
     // zeros where the bytes are no image
-    let o = image::open(image);
-    let c = o.contents;
-    let n = c.scalars;
-    [
-        frame,
-        status as u64,
-        n.observed_commit_frontier,
-        n.policy_floor,
-        n.minimum_readable_version,
-        n.physically_collected_through,
-        n.lease_clock_tick,
-        n.root_intent_epoch,
-    ]
-}
-
-// What is read next: so many, none at the end of the input, or that it is cut or too long.
-#[derive(Clone, Copy)]
-enum Frame {
-    Request(usize),
-    Done,
-    Bad,
-}
-
-fn size_of(head: &[u8; 4]) -> usize {
-    parts::u32_at(head, 0) as usize
-}
-
-fn read_frame(frame: &mut [u8]) -> Frame {
-    let mut head = [0u8; 4];
-    let n = io::read_full(STDIN, &mut head);
-    if n == 0 {
-        return Frame::Done;
+    let n = image::open(image).unwrap_or_default().scalars;
+    Line {
+        step,
+        status,
+        frontier: n.observed_commit_frontier,
+        policy: n.policy_floor,
+        readable: n.minimum_readable_version,
+        collected: n.physically_collected_through,
+        clock: n.lease_clock_tick,
+        epoch: n.root_intent_epoch,
     }
-    if n < 4 {
-        return Frame::Bad;
-    }
-    let size = size_of(&head);
-    if frame.len() < size {
-        return Frame::Bad;
-    }
-    let got = io::read_full(STDIN, &mut frame[..size]);
-    if got < size {
-        return Frame::Bad;
-    }
-    Frame::Request(size)
 }
 
 // The first n bytes of the next image become those of the image.
@@ -92,91 +78,120 @@ fn keep(image: &mut [u8], next: &[u8], n: usize)
     requires { n ≤ length image.old }
     ensures { image.new ≡ over image.old 0 (take n next.now) }
 {
-    let part = [0, 0, n];
-    parts::write(next, b"", &part, image);
+    let n = n.min(next.len());
+    image[..n].copy_from_slice(&next[..n]);
 }
 
-// What a frame gives: the size of the image after it, and its line.
-#[derive(Clone, Copy)]
-struct Stepped {
-    size: usize,
-    line: [u64; 8],
-}
-
-// One request, on the image that the frames before it left: it leaves the image that the next one is stepped on.
-fn step(
+// The authority after some frames: how many there were, the size of the image that they left and its bytes, and what is lent
+// to a call for the next image and the outcome.
+#[derive(Drop)]
+struct Authority {
     frames: u64,
     size: usize,
-    request: &[u8],
-    image: &mut [u8],
-    next: &mut [u8],
-    outcome: &mut [u8],
-) -> Stepped
-    requires lent { (length image.old ≡ room) × (length next.old ≡ room) × (length outcome.old ≡ outcome_room) × (size ≤ room) × (frames < 2 ^ 64 - 1) }
-    requires moment { Moment frames (take size image.old) }
-    ensures answer { result ≡ stepped_of (frames + 1) (take size image.old) (answered (take size image.old) request.now) }
-    ensures bytes { image.new ≡ over image.old 0 (image_of (answered (take size image.old) request.now)) }
-    ensures moment { Moment (frames + 1) (take result.size image.new) × (result.size ≤ room) }
-{
-    let a = transition::apply(parts::clip(image, 0, size), request, next, outcome);
-    let n = a.image;
-    if a.status != 0 {
-        return Stepped {
+    image: [u8; ROOM],
+    next: [u8; ROOM],
+    outcome: [u8; OUTCOME_ROOM],
+}
+
+impl Authority {
+    // Before the first frame, with the default image.
+    fn new() -> Authority
+        ensures first { result.frames ≡ 0 }
+        ensures moment { AtMoment result }
+    {
+        let mut image = [0; ROOM];
+        let size = image::default_image(&mut image).unwrap_or(0);
+        Authority {
+            frames: 0,
             size,
-            line: line_of(frames + 1, a.status, parts::clip(image, 0, size)),
-        };
-    }
-    keep(image, next, n);
-    Stepped {
-        size: n,
-        line: line_of(frames + 1, 0, parts::clip(image, 0, n)),
-    }
-}
-
-// What a run gives: how many frames it stepped, and the size of the image that the last one left.
-#[derive(Clone, Copy)]
-struct Ran {
-    frames: u64,
-    size: usize,
-}
-
-// From the default image frame by frame, up to the end of the input.
-fn run(image: &mut [u8], next: &mut [u8], outcome: &mut [u8], frame: &mut [u8]) -> Ran
-    requires { (length image.old ≡ room) × (length next.old ≡ room) × (length outcome.old ≡ outcome_room) }
-    ensures moment { Moment result.frames (take result.size image.new) }
-    ensures few { result.frames < 2 ^ 64 - 1 }
-{
-    let w = image::default_image(image);
-    let mut size = w.length;
-    let mut frames: u64 = 0;
-    while frames < MOST_FRAMES {
-        let f = read_frame(frame);
-        match f {
-            Frame::Done => {
-                write(b"end\n");
-                return Ran { frames, size };
-            }
-            Frame::Bad => {
-                write(b"end bad\n");
-                return Ran { frames, size };
-            }
-            Frame::Request(n) => {
-                let s = step(frames, size, parts::clip(frame, 0, n), image, next, outcome);
-                let line = s.line;
-                write_line(line);
-                size = s.size;
-            }
+            image,
+            next: [0; ROOM],
+            outcome: [0; OUTCOME_ROOM],
         }
-        frames += 1;
     }
-    Ran { frames, size }
+
+    fn image(&self) -> &[u8]
+        requires { self.now.size ≤ room }
+        ensures { result.now ≡ image_at self.now }
+    {
+        &self.image[..self.size]
+    }
+
+    // One request, on the image that the frames before it left: it leaves the image that the next one is stepped on.
+    fn step(&mut self, request: &[u8]) -> Line
+        requires few { self.old.frames < 2 ^ 64 - 1 }
+        requires moment { AtMoment self.old }
+        ensures frames { self.new.frames ≡ self.old.frames + 1 }
+        ensures line { result ≡ line_of (self.old.frames + 1) (status_of (answered_at self.old request.now)) (left_at self.old request.now) }
+        ensures size { self.new.size ≡ length (left_at self.old request.now) }
+        ensures bytes { self.new.image ≡ over self.old.image 0 (image_of (answered_at self.old request.now)) }
+        ensures moment { AtMoment self.new }
+    {
+        let applied = transition::apply(
+            &self.image[..self.size],
+            request,
+            &mut self.next,
+            &mut self.outcome,
+        );
+        self.frames += 1;
+        let status = match applied {
+            Ok(lengths) => {
+                keep(&mut self.image, &self.next, lengths.image);
+                self.size = lengths.image;
+                0
+            }
+            Err(refusal) => refusal.number(),
+        };
+        line_of(self.frames, status, self.image())
+    }
 }
 
-fn main() {
-    let mut image = [0u8; 16384];
-    let mut next = [0u8; 16384];
-    let mut outcome = [0u8; 8192];
-    let mut frame = [0u8; 8192];
-    write(b"step status frontier policy readable collected clock epoch\n");
-    run(&mut image, &mut next, &mut outcome, &mut frame);
+// A frame that is cut, too long or not to be read.
+#[derive(Clone, Copy, Debug, PartialEq, Eq)]
+struct BadFrame;
+
+impl From<io::Error> for BadFrame {
+    fn from(_: io::Error) -> BadFrame {
+        BadFrame
+    }
+}
+
+// The next request, read to the front of `frame`; none at the end of the input.
+fn read_frame<'a>(
+    input: &mut impl BufRead,
+    frame: &'a mut [u8],
+) -> Result<Option<&'a [u8]>, BadFrame> {
+    if input.fill_buf()?.is_empty() {
+        return Ok(None);
+    }
+    let mut head = [0; 4];
+    input.read_exact(&mut head)?;
+    let size = u32::from_le_bytes(head) as usize;
+    let request = frame.get_mut(..size).ok_or(BadFrame)?;
+    input.read_exact(request)?;
+    Ok(Some(request))
+}
+
+// Frame by frame, up to the end of the input.
+fn run(rt: &(impl Input + Print), authority: &mut Authority) -> io::Result<()>
+    requires few { authority.old.frames < 2 ^ 64 - 1 }
+    requires moment { AtMoment authority.old }
+    ensures few { authority.new.frames < 2 ^ 64 - 1 }
+    ensures moment { AtMoment authority.new }
+{
+    let mut input = rt.reader();
+    let mut frame = [0; REQUEST_ROOM];
+    for _ in authority.frames..MOST_FRAMES {
+        match read_frame(&mut input, &mut frame) {
+            Ok(Some(request)) => println!(rt; "{}", authority.step(request))?,
+            Ok(None) => return println!(rt; "end"),
+            Err(BadFrame) => return println!(rt; "end bad"),
+        }
+    }
+    Ok(())
+}
+
+fn main(rt: HostRuntime) -> io::Result<()> {
+    println!(rt; "step status frontier policy readable collected clock epoch")?;
+    run(&rt, &mut Authority::new())
 }

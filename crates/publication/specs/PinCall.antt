@@ -1,8 +1,8 @@
 -- Pin: what its code computes, as the rule and the next state have it.
-use Rattle.std.specs.Prelude.{ℕ, ◌+◌, ◌-◌, ◌≤◌, Bool, List, [], ◌∷◌, ◌++◌, ◌≡◌, drop, set}
+use Rattle.parts.specs.declared.Part.TheVariants.{First, Second}
+use Rattle.std.specs.Prelude.{ℕ, ◌+◌, ◌-◌, ◌≤◌, Bool, List, [], ◌∷◌, ◌++◌, ◌≡◌, drop, set, Option, Some}
 use Rattle.std.proofs.Common.{arith, append_assoc, sym, ◌∙◌}
 use Rattle.std.proofs.Math.Bool.{not}
-use Rattle.std.proofs.Math.Option.{Option, some}
 use Rattle.std.proofs.Math.Path.{refl, ap}
 use Rattle.std.proofs.Math.ListN.{length, length-append}
 use Rattle.text.specs.Same.{same_of}
@@ -12,7 +12,7 @@ use Rattle.state.specs.Maps.{Text, ◌⟼◌, lookup, insert, same_option}
 use Rattle.state.specs.Records.{State, ObjectReference, reference_eq}
 use Rattle.state.specs.Setters.{set_revision}
 use Rattle.fields.specs.Format.{enc, enc_text, option}
-use Rattle.fields.specs.Codes.{codes_of, shape}
+use Rattle.fields.specs.Codes.{codes}
 use Rattle.tables.specs.Seek.{seek, placed}
 use Rattle.tables.specs.declared.Place.{Place}
 use Rattle.image.specs.Shapes.{reference, reference_parts, each_option}
@@ -63,19 +63,19 @@ module _ {x : List ℕ} {c : Contents} {q : List ℕ} {ctx : ContextAt} {f : Fau
   abbrev option_bytes : List ℕ
   option_bytes = enc (option reference) (each_option reference_parts expected)
 
-  fields : drop 27 q ≡ enc_text name ++ (option_bytes ++ held (some manifest))
+  fields : drop 27 q ≡ enc_text name ++ (option_bytes ++ held (Some manifest))
   unfolding enc
   fields = fields_here _ q ready.request_is
 
-  after-name : drop (27 + (length name + 1)) q ≡ option_bytes ++ held (some manifest)
+  after-name : drop (27 + (length name + 1)) q ≡ option_bytes ++ held (Some manifest)
   unfolding enc_text
-  after-name = after_seam q (enc_text name) (option_bytes ++ held (some manifest)) 27 (27 + (length name + 1)) fields (omega arith)
+  after-name = after_seam q (enc_text name) (option_bytes ++ held (Some manifest)) 27 (27 + (length name + 1)) fields (omega arith)
 
   name-run : run q 27 (length name + 1) ≡ enc_text name
   unfolding enc_text
-  name-run = run-to q (enc_text name) (option_bytes ++ held (some manifest)) 27 (length name + 1) fields (omega arith)
+  name-run = run-to q (enc_text name) (option_bytes ++ held (Some manifest)) 27 (length name + 1) fields (omega arith)
 
-  module _ (id : List ℕ) (e : id ≡ name) (place : Place) (found : place ≡ placed x (seek (codes_of (shape (row_format pins))) (table_in pins c).count id (drop (table_in pins c).at x)))
+  module _ (id : List ℕ) (e : id ≡ name) (place : Place) (found : place ≡ placed x (seek (codes (row_format pins)) (table_in pins c).count id (drop (table_in pins c).at x)))
       (given : List ℕ) (g : given ≡ option_at q (27 + (length id + 1)))
     where
       there : Located pins x c name place
@@ -131,12 +131,12 @@ module _ {x : List ℕ} {c : Contents} {q : List ℕ} {ctx : ContextAt} {f : Fau
 
       row-size : length id + 1 + (length q - last) ≡ length (row_bytes pins (name ⟼ manifest))
       unfolding enc enc_text
-      row-size = omega (arith, ap length e, last-length q (27 + (length name + 1)) expected manifest after-name last last-is, length-append (enc_text name) (held (some manifest)))
+      row-size = omega (arith, ap length e, last-length q (27 + (length name + 1)) expected manifest after-name last last-is, length-append (enc_text name) (held (Some manifest)))
 
       pub pin-tables : (n : ℕ) → n ≡ place.start - tables_place c
-          → gather_of x q (0 ∷ tables_place c ∷ n ∷ 1 ∷ 27 ∷ (length id + 1) ∷ 1 ∷ last ∷ length q ∷ 0 ∷ place.end ∷ length x ∷ []) ≡ joined (tables_of (pinned st name manifest))
+          → gather_of x q (First (tables_place c) n ∷ Second 27 (length id + 1) ∷ Second last (length q) ∷ First place.end (length x) ∷ []) ≡ joined (tables_of (pinned st name manifest))
       pin-tables n h =
-          inserted_tables ready.holds ready.formed pins there manifest q (1 ∷ 27 ∷ (length id + 1) ∷ 1 ∷ last ∷ length q ∷ [])
+          inserted_tables ready.holds ready.formed pins there manifest q (Second 27 (length id + 1) ∷ Second last (length q) ∷ [])
           (λ ps. sym (append_assoc (run q 27 (length id + 1)) (run q last (length q)) (gather_of x q ps)) ∙ ap (λ (l : List ℕ). l ++ gather_of x q ps) row_is) n h
 
       module _ (l : ℕ) (el : l ≡ length q - last) where

@@ -1,8 +1,7 @@
 -- References as bytes: those of a stored row after its id, and those of an option after its flag, are the same just where both
 -- are absent or both hold equal references.
-use Rattle.std.specs.Prelude.{ℕ, suc, ◌+◌, ◌-◌, List, [], ◌++◌, ◌≡◌, refl, length, take, drop}
+use Rattle.std.specs.Prelude.{ℕ, suc, ◌+◌, ◌-◌, List, [], ◌++◌, ◌≡◌, refl, length, take, drop, Option, None, Some}
 use Rattle.std.proofs.Common.{arith, append-nil, sym, ap, ◌∙◌, length-append, length-drop}
-use Rattle.std.proofs.Math.Option.{Option, none, some}
 use Rattle.std.proofs.Math.Seq.{drop-append_seam, drop-nil, take-append_seam}
 use Rattle.text.specs.Same.{same_of}
 use Rattle.state.specs.Maps.{Text, Map, lookup, same_option}
@@ -10,8 +9,7 @@ use Rattle.state.specs.Sorted.{Ascending}
 use Rattle.state.proofs.Places.{at}
 use Rattle.state.specs.Records.{State, ObjectReference, reference_eq}
 use Rattle.fields.specs.Format.{Field, El, enc, enc_text, enc_option, option, all, Within}
-use Rattle.fields.specs.Codes.{skip, codes_of, shape}
-use Rattle.fields.proofs.CodeLaws.{shape-codes}
+use Rattle.fields.specs.Codes.{codes, skip}
 use Rattle.fields.specs.Walks.{place_of}
 use Rattle.parts.specs.Gather.{run}
 use Rattle.image.specs.Body.{row}
@@ -31,24 +29,24 @@ use Rattle.next.specs.Edit.{Standing, absent, present, standing, run_row}
 use Rattle.edits.specs.PlaceLaws.{Located, spot}
 
 abbrev pub held : Option ObjectReference → List ℕ
-held none = []
-held (some v) = enc reference (reference_parts v)
+held None = []
+held (Some v) = enc reference (reference_parts v)
 
 abbrev pub HeldWithin : Option ObjectReference → Type 0
 HeldWithin o = Within (option reference) (each_option reference_parts o)
 
 pub same-held : (a b : Option ObjectReference) → HeldWithin a → HeldWithin b → same_of (held a) (held b) ≡ same_option reference_eq a b
 unfolding same_of enc
-same-held none none h k = refl
-same-held none (some w) h k = refl
-same-held (some v) none h k = refl
-same-held (some v) (some w) h k = same-reference v w h k
+same-held None None h k = refl
+same-held None (Some w) h k = refl
+same-held (Some v) None h k = refl
+same-held (Some v) (Some w) h k = same-reference v w h k
 
 -- an option after its flag
 pub option-held : (o : Option ObjectReference) → drop 1 (enc (option reference) (each_option reference_parts o)) ≡ held o
 unfolding enc enc_option
-option-held none = refl
-option-held (some v) = refl
+option-held None = refl
+option-held (Some v) = refl
 
 -- a row after its id
 pub row-rest : (n : ℕ) (f : Field) (v : El (row n f)) → drop (length v.0 + 1) (enc (row n f) v ++ []) ≡ enc f v.1
@@ -70,8 +68,8 @@ pub held-within : (m : Map ObjectReference) → Stored short reference (row_of r
 held-within m st k = go (lookup k m) refl
   where
     go : (o : Option ObjectReference) → lookup k m ≡ o → HeldWithin o
-    go none e = tt
-    go (some v) e = (st.found k v e).1.1
+    go None e = tt
+    go (Some v) e = (st.found k v e).1.1
 
 -- ---- the row of a pin or a root by its place in the image: after its id it holds just the bytes of the option
 module _ {x : List ℕ} {c : Contents} {s : State} (h : Holds x c s) (f : Formed s) {k : Text} {place : Place} (o : Option ObjectReference) (within : HeldWithin o) where
@@ -90,24 +88,24 @@ module _ {x : List ℕ} {c : Contents} {s : State} (h : Holds x c s) (f : Formed
 -- ---- in a request: an option of a reference, and after it a reference to the end
 
 abbrev pub option_at : List ℕ → ℕ → List ℕ
-option_at s at = take (place_of s (skip 0 (codes_of (shape (option reference))) (drop at s)) - at) (drop at s)
+option_at s at = take (place_of s (skip 0 (codes (option reference)) (drop at s)) - at) (drop at s)
 
 module _ (q : List ℕ) (at : ℕ) (o : Option ObjectReference) (v : ObjectReference) (here : drop at q ≡ enc (option reference) (each_option reference_parts o) ++ enc reference (reference_parts v)) where
   abbrev option_bytes : List ℕ
   option_bytes = enc (option reference) (each_option reference_parts o)
 
-  pub lengths : length q - at ≡ length option_bytes + length (held (some v))
-  lengths = sym (length-drop at q) ∙ ap length here ∙ length-append option_bytes (held (some v))
+  pub lengths : length q - at ≡ length option_bytes + length (held (Some v))
+  lengths = sym (length-drop at q) ∙ ap length here ∙ length-append option_bytes (held (Some v))
 
   pub option-here : option_at q at ≡ option_bytes
   option-here =
-      let z : skip 0 (codes_of (shape (option reference))) (drop at q) ≡ held (some v) =
-      (λ i. skip 0 (shape-codes (option reference) refl i) (here i)) ∙ skip-to (option reference) (each_option reference_parts o) (held (some v)) in
-      let n : place_of q (held (some v)) - at ≡ length option_bytes = omega (arith, lengths) in
-      (λ i. take (place_of q (z i) - at) (here i)) ∙ ap (λ (k : ℕ). take k (option_bytes ++ held (some v))) n ∙ take-append_seam option_bytes (held (some v))
+      let z : skip 0 (codes (option reference)) (drop at q) ≡ held (Some v) =
+      (λ i. skip 0 (codes (option reference)) (here i)) ∙ skip-to (option reference) (each_option reference_parts o) (held (Some v)) in
+      let n : place_of q (held (Some v)) - at ≡ length option_bytes = omega (arith, lengths) in
+      (λ i. take (place_of q (z i) - at) (here i)) ∙ ap (λ (k : ℕ). take k (option_bytes ++ held (Some v))) n ∙ take-append_seam option_bytes (held (Some v))
 
-  pub last-here : (m : ℕ) → m ≡ at + length option_bytes → run q m (length q) ≡ held (some v)
-  last-here m e = run-rest q (held (some v)) m (length q) (after_seam q option_bytes (held (some v)) at m here e) (omega arith)
+  pub last-here : (m : ℕ) → m ≡ at + length option_bytes → run q m (length q) ≡ held (Some v)
+  last-here m e = run-rest q (held (Some v)) m (length q) (after_seam q option_bytes (held (Some v)) at m here e) (omega arith)
 
-  pub last-length : (m : ℕ) → m ≡ at + length option_bytes → length q - m ≡ length (held (some v))
+  pub last-length : (m : ℕ) → m ≡ at + length option_bytes → length q - m ≡ length (held (Some v))
   last-length m e = omega (arith, lengths)

@@ -1,8 +1,8 @@
 -- Unpin: what its code computes, as the rule and the next state have it.
-use Rattle.std.specs.Prelude.{ℕ, ◌+◌, ◌-◌, Bool, List, [], ◌∷◌, ◌≡◌, length, take, drop, set}
+use Rattle.parts.specs.declared.Part.TheVariants.{First}
+use Rattle.std.specs.Prelude.{ℕ, ◌+◌, ◌-◌, Bool, List, [], ◌∷◌, ◌≡◌, length, take, drop, set, Some}
 use Rattle.std.proofs.Common.{arith, ◌∙◌}
 use Rattle.std.proofs.Math.Bool.{not}
-use Rattle.std.proofs.Math.Option.{some}
 use Rattle.std.proofs.Math.Path.{refl, ap}
 use Rattle.text.specs.Same.{same_of}
 use Rattle.parts.specs.Gather.{run, gather_of}
@@ -10,7 +10,7 @@ use Rattle.state.specs.Maps.{Text, lookup, remove, same_option}
 use Rattle.state.specs.Records.{State, ObjectReference, reference_eq}
 use Rattle.state.specs.Setters.{set_revision}
 use Rattle.fields.specs.Format.{enc, enc_text}
-use Rattle.fields.specs.Codes.{codes_of, shape}
+use Rattle.fields.specs.Codes.{codes}
 use Rattle.tables.specs.Seek.{seek, placed}
 use Rattle.tables.specs.declared.Place.{Place}
 use Rattle.image.specs.Layout.{pins, row_format}
@@ -54,13 +54,13 @@ module _ {x : List ℕ} {c : Contents} {q : List ℕ} {ctx : ContextAt} {f : Fau
   abbrev asked : Rule
   asked = act st (action_of q (PublicationAction.Unpin a)) (context_of ctx) (faults_of f)
 
-  expected-here : run q (27 + (length name + 1)) (length q) ≡ held (some expected)
+  expected-here : run q (27 + (length name + 1)) (length q) ≡ held (Some expected)
   unfolding enc enc_text
   expected-here =
-      let r = held (some expected) in
+      let r = held (Some expected) in
       run-rest q r (27 + (length name + 1)) (length q) (after_seam q (enc_text name) r 27 (27 + (length name + 1)) (fields_here _ q ready.request_is) (omega arith)) (omega arith)
 
-  module _ (id : List ℕ) (e : id ≡ name) (place : Place) (found : place ≡ placed x (seek (codes_of (shape (row_format pins))) (table_in pins c).count id (drop (table_in pins c).at x))) where
+  module _ (id : List ℕ) (e : id ≡ name) (place : Place) (found : place ≡ placed x (seek (codes (row_format pins)) (table_in pins c).count id (drop (table_in pins c).at x))) where
     there : Located pins x c name place
     there = located_as pins e found
 
@@ -69,10 +69,10 @@ module _ {x : List ℕ} {c : Contents} {q : List ℕ} {ctx : ContextAt} {f : Fau
       abbrev same : Bool
       same = same_of (drop (length id + 1) row) part
 
-      same-is : same ≡ same_option reference_eq (lookup name st.pins) (some expected)
+      same-is : same ≡ same_option reference_eq (lookup name st.pins) (Some expected)
       same-is =
           (λ i. same_of (drop (length (e i) + 1) (r i)) ((p ∙ ap (λ (k : Text). run q (27 + (length k + 1)) (length q)) e ∙ expected-here) i))
-          ∙ pin-same ready.holds ready.formed (some expected) ready.within.1.1 there
+          ∙ pin-same ready.holds ready.formed (Some expected) ready.within.1.1 there
 
       abbrev tests : List Refusal
       tests = unpin_tests name expected same
@@ -99,5 +99,5 @@ module _ {x : List ℕ} {c : Contents} {q : List ℕ} {ctx : ContextAt} {f : Fau
           raised-shows ready ctx.position d ed pins t (remove name st.pins)
           (ap (λ (u : Table). measures_in (set c.tables 2 u)) et ∙ removed_shown ready.holds ready.formed pins there)
 
-    pub unpin-tables : (n : ℕ) → n ≡ place.start - tables_place c → gather_of x q (0 ∷ tables_place c ∷ n ∷ 0 ∷ place.end ∷ length x ∷ []) ≡ joined (tables_of (unpinned st name))
+    pub unpin-tables : (n : ℕ) → n ≡ place.start - tables_place c → gather_of x q (First (tables_place c) n ∷ First place.end (length x) ∷ []) ≡ joined (tables_of (unpinned st name))
     unpin-tables n h = removed_tables ready.holds ready.formed pins there q n h

@@ -5,7 +5,9 @@ use Rattle.std.proofs.Common.{arith, sym, ap, ◌∙◌, length-drop, take_all, 
 use Rattle.std.proofs.Math.Nat.{sub-zero}
 use Rattle.std.proofs.Math.Seq.{take-nil, drop-nil}
 use Rattle.state.specs.Maps.{Every}
-use Rattle.fields.specs.Codes.{Code, a_number, a_kind, a_text, a_set, maybe, hop, past, passed, skip}
+use Rattle.fields.specs.declared.Code.{Code}
+use Rattle.fields.specs.declared.Code.TheVariants.{Number, Kind, Text, Keys, Maybe}
+use Rattle.fields.specs.Codes.{hop, past, passed, skip}
 use Rattle.fields.specs.Rows.{text_here}
 use Rattle.fields.specs.Walks.{Rest}
 use Rattle.fields.proofs.WalkLaws.{rest_trans, hop-rest}
@@ -59,35 +61,35 @@ text-ahead (k ∷ s) t r = ap text_here (ahead-cons k s t (omega (arith, h))) �
 -- ---- fields in a row
 
 abbrev pub Plain : Code → Type 0
-Plain (a_number n) = Unit {0}
-Plain a_kind = Unit {0}
-Plain (a_text n) = Unit {0}
-Plain (a_set m n) = ⊥
-Plain (maybe n) = ⊥
+Plain (Number n) = Unit {0}
+Plain Kind = Unit {0}
+Plain (Text n) = Unit {0}
+Plain (Keys m n) = ⊥
+Plain (Maybe n) = ⊥
 
 past-ahead : (c : Code) → Plain c → (s t : List ℕ) → Rest (past c s) t → past c (ahead s t) ≡ ahead (past c s) t
 unfolding past
-past-ahead (a_number n) p s t r = ahead-drop n s t (rest-length r)
-past-ahead a_kind p s t r = ahead-drop 1 s t (rest-length r)
-past-ahead (a_text n) p s t r = hop-ahead s t r
-past-ahead (a_set m n) p s t r = absurd p
-past-ahead (maybe n) p s t r = absurd p
+past-ahead (Number n) p s t r = ahead-drop n s t (rest-length r)
+past-ahead Kind p s t r = ahead-drop 1 s t (rest-length r)
+past-ahead (Text n) p s t r = hop-ahead s t r
+past-ahead (Keys m n) p s t r = absurd p
+past-ahead (Maybe n) p s t r = absurd p
 
 none_passed : (c : Code) → Plain c → (s : List ℕ) → passed c s ≡ 0
 unfolding passed
-none_passed (a_number n) p s = refl
-none_passed a_kind p s = refl
-none_passed (a_text n) p s = refl
-none_passed (a_set m n) p s = absurd p
-none_passed (maybe n) p s = absurd p
+none_passed (Number n) p s = refl
+none_passed Kind p s = refl
+none_passed (Text n) p s = refl
+none_passed (Keys m n) p s = absurd p
+none_passed (Maybe n) p s = absurd p
 
 skip_on : (c : Code) (cs : List Code) → Plain c → (s : List ℕ) → skip 0 (c ∷ cs) s ≡ skip 0 cs (past c s)
 unfolding skip
 skip_on c cs p s = ap (λ (k : ℕ). skip k cs (past c s)) (none_passed c p s)
 
-text_on : (n : ℕ) (ds : List Code) (s : List ℕ) → skip 0 (a_text n ∷ ds) s ≡ skip 0 ds (hop s)
+text_on : (n : ℕ) (ds : List Code) (s : List ℕ) → skip 0 (Text n ∷ ds) s ≡ skip 0 ds (hop s)
 unfolding past
-text_on n ds s = skip_on (a_text n) ds tt s
+text_on n ds s = skip_on (Text n) ds tt s
 
 skip-append : (cs ds : List Code) → Every Plain cs → (s : List ℕ) → skip 0 (cs ++ ds) s ≡ skip 0 ds (skip 0 cs s)
 unfolding skip
@@ -106,11 +108,11 @@ skip-ahead (c ∷ cs) p s t r =
     ∙ ap (λ (l : List ℕ). ahead l t) (sym e)
 
 -- the text after the fields cs, sought in a record that goes on with it
-pub text_own : (cs : List Code) (n : ℕ) (ds : List Code) → Every Plain cs → (s : List ℕ) → text_here (skip 0 cs (record_of (cs ++ (a_text n ∷ ds)) s)) ≡ text_here (skip 0 cs s)
+pub text_own : (cs : List Code) (n : ℕ) (ds : List Code) → Every Plain cs → (s : List ℕ) → text_here (skip 0 cs (record_of (cs ++ (Text n ∷ ds)) s)) ≡ text_here (skip 0 cs s)
 unfolding record_of
 text_own cs n ds p s =
     let x : List ℕ = skip 0 cs s in
-    let t : List ℕ = skip 0 (cs ++ (a_text n ∷ ds)) s in
-    let e : t ≡ skip 0 ds (hop x) = skip-append cs (a_text n ∷ ds) p s ∙ text_on n ds x in
+    let t : List ℕ = skip 0 (cs ++ (Text n ∷ ds)) s in
+    let e : t ≡ skip 0 ds (hop x) = skip-append cs (Text n ∷ ds) p s ∙ text_on n ds x in
     let h : Rest (hop x) t = rw e (skip-rest 0 ds (hop x)) in
     ap text_here (skip-ahead cs p s t (rest_trans (hop-rest x) h)) ∙ text-ahead x t h

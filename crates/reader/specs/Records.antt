@@ -1,11 +1,12 @@
--- The record of some codes at the head of any bytes, as far as the skip walk goes; and what a reader that steps from record to record sees of a table.
+-- The record of some codes at the head of any bytes, as far as the skip walk goes; and the records of a table, row by row.
 use Rattle.std.specs.Prelude.{ℕ, ◌-◌, List, [], ◌∷◌, ◌++◌, map, ◌≡◌, refl, length, take}
 use Rattle.std.proofs.Common.{arith, append_assoc, append-nil, sym, ap, ◌∙◌, length-append}
 use Rattle.std.proofs.Math.Seq.{take-append_seam}
 use Rattle.parts.specs.Digits.{Bytes}
 use Rattle.fields.specs.Format.{ok, all, Field, El, enc, dec, Every, Within}
 use Rattle.fields.proofs.FormatLaws.{dec-enc, enc-dec}
-use Rattle.fields.specs.Codes.{Code, codes, skip}
+use Rattle.fields.specs.declared.Code.{Code}
+use Rattle.fields.specs.Codes.{codes, skip}
 use Rattle.fields.proofs.CodeLaws.{skip-dec}
 use Rattle.tables.specs.Seek.{rows_at}
 
@@ -29,7 +30,7 @@ record_enc f v rest w =
 pub record_read : (f : Field) (s : List ℕ) (v : El f) (r : List ℕ) → Bytes s → dec f s ≡ ok v r → record_of (codes f) s ≡ enc f v
 record_read f s v r b h = let (i, w) = enc-dec f s v r b h in ap (record_of (codes f)) i ∙ record_enc f v r w
 
--- THE RECORDS OF A TABLE, from step to step, are the bytes of its values
+-- THE RECORDS OF A TABLE, row by row, are the bytes of its values
 pub records_enc : (f : Field) (vs : List (El f)) (rest : List ℕ) → Every (Within f) vs → map (record_of (codes f)) (rows_at (codes f) (length vs) (all (enc f) vs ++ rest)) ≡ map (enc f) vs
 unfolding rows_at all
 records_enc f [] rest w = refl

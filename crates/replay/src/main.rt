@@ -1,4 +1,4 @@
-// Replays the answers of the Rust, as document 02 changes them: the cases of standard input, numbers little-endian, each
+// Replays the answers of the Rust, as the change requests change them: the cases of standard input, numbers little-endian, each
 // after a byte that says its kind.
 //
 //   0 load        length, image: the image that stands from here
@@ -11,301 +11,266 @@
 #![tactic(auto)]
 
 ghost use Rattle.std.specs.Prelude.{◌≡◌, ◌≤◌, length};
+ghost use Rattle.std.specs.Iterator.{at_most};
 
-use parts::Applied;
-
-// The numbers of the standard input and output.
-const STDIN: i32 = 0;
-
-const STDOUT: i32 = 1;
+use parts::Lengths;
+use refusals::Refusal;
+use std::io::Read;
+use std::{fmt, io};
 
 // What a lent byte holds before a call.
 const FILLING: u8 = 165;
 
-// Where some bytes of the cases stand.
+// A call of `apply`: what it is given, and what it should answer.
 #[derive(Clone, Copy)]
-struct Part {
-    at: usize,
-    len: usize,
+struct Call<'a> {
+    request: &'a [u8],
+    room: usize,
+    outcome_room: usize,
+    status: u32,
+    next: &'a [u8],
+    outcome: &'a [u8],
 }
 
-// What a case leaves: where the next one begins, the image that stands, the answer, and whether it is the one expected.
 #[derive(Clone, Copy)]
-struct Case {
-    end: usize,
-    image: Part,
-    answer: u32,
+enum Case<'a> {
+    Load { image: &'a [u8] },
+    Apply(Call<'a>),
+    Validate { token: &'a [u8], expected: u32 },
+    Test { expected: u32 },
+    // of a kind that there is none of
+    Unknown,
+}
+
+// The cases that are left, in bytes. Where the bytes end too early, a number or a part has those that there are.
+#[derive(Drop)]
+struct Cases<'a> {
+    left: &'a [u8],
+}
+
+impl<'a> Cases<'a> {
+    // The next n bytes.
+    fn bytes(&mut self, n: usize) -> &'a [u8]
+        ensures few { length result.now ≤ n }
+        ensures on { length self.new.left.now ≤ length self.old.left.now }
+    {
+        let left = self.left;
+        let (bytes, left) = left.split_at(n.min(left.len()));
+        self.left = left;
+        bytes
+    }
+
+    fn number(&mut self) -> u32
+        ensures { length self.new.left.now ≤ length self.old.left.now }
+    {
+        let bytes = self.bytes(4);
+        let mut number = [0; 4];
+        number[..bytes.len()].copy_from_slice(bytes);
+        u32::from_le_bytes(number)
+    }
+
+    // A length, and so many bytes.
+    fn part(&mut self) -> &'a [u8]
+        ensures { length self.new.left.now ≤ length self.old.left.now }
+    {
+        let n = self.number() as usize;
+        self.bytes(n)
+    }
+
+    fn call(&mut self) -> Call<'a>
+        ensures { length self.new.left.now ≤ length self.old.left.now }
+    {
+        Call {
+            request: self.part(),
+            room: self.number() as usize,
+            outcome_room: self.number() as usize,
+            status: self.number(),
+            next: self.part(),
+            outcome: self.part(),
+        }
+    }
+}
+
+impl<'a> Iterator for Cases<'a> {
+    type Item = Case<'a>;
+
+    ghost remaining = { λ s. at_most (length s.left.now) };
+
+    fn next(&mut self) -> Option<Case<'a>> {
+        let (kind, left) = self.left.split_first()?;
+        self.left = left;
+        Some(match *kind {
+            0 => Case::Load { image: self.part() },
+            1 => Case::Apply(self.call()),
+            2 => Case::Validate {
+                token: self.part(),
+                expected: self.number(),
+            },
+            3 => Case::Test {
+                expected: self.number(),
+            },
+            _ => {
+                // nobody can say where the next case would begin
+                self.left = &[];
+                Case::Unknown
+            }
+        })
+    }
+}
+
+// Whether s is what was wanted and then the filling. A fold and not `all`, which stops early: so it is compiled to vectors.
+fn holds(s: &[u8], wanted: &[u8]) -> bool {
+    let Some(rest) = s.strip_prefix(wanted) else {
+        return false;
+    };
+    rest.iter().fold(true, |same, b| same & (*b == FILLING))
+}
+
+// What a case answers, where it is a call, and whether that is what was expected.
+#[derive(Clone, Copy)]
+struct Answer {
+    number: Option<u32>,
     same: bool,
 }
 
-fn write(s: &[u8]) {
-    io::write_all(STDOUT, s);
-}
-
-fn write_number(n: u64) {
-    io::print_decimal(STDOUT, n);
-}
-
-// n bytes on, as far as the cases go.
-fn after(cases: &[u8], at: usize, n: usize) -> usize
-    ensures { result ≤ length cases.now }
-{
-    if parts::less(cases.len(), at) <= n {
-        return cases.len();
-    }
-    at + n
-}
-
-fn number_at(cases: &[u8], at: usize) -> usize {
-    parts::u32_at(cases, at) as usize
-}
-
-// A length, and so many bytes.
-fn part_at(cases: &[u8], at: usize) -> Part {
-    Part {
-        at: after(cases, at, 4),
-        len: number_at(cases, at),
-    }
-}
-
-fn end_of(cases: &[u8], p: Part) -> usize
-    ensures { result ≤ length cases.now }
-{
-    after(cases, p.at, p.len)
-}
-
-fn bytes_of<'a>(cases: &'a [u8], p: Part) -> &'a [u8] {
-    parts::clip(cases, p.at, p.len)
-}
-
-fn fill(s: &mut [u8]) {
-    let mut i = 0;
-    while i < s.len() {
-        s[i] = FILLING;
-        i += 1;
-    }
-}
-
-// Whether s is what was wanted and then the filling.
-fn holds(s: &[u8], wanted: &[u8]) -> bool {
-    let n = wanted.len();
-    let mut same = text::same(parts::clip(s, 0, n), wanted);
-    let mut i = n;
-    while i < s.len() {
-        if s[i] != FILLING {
-            same = false;
+impl Answer {
+    fn expecting(number: u32, expected: u32) -> Answer {
+        Answer {
+            number: Some(number),
+            same: number == expected,
         }
-        i += 1;
-    }
-    same
-}
-
-// One call with so much room in both lent slices. No answer has status 0 and no image: it stands for room that is not there.
-fn apply(
-    image: &[u8],
-    request: &[u8],
-    room: usize,
-    outcome_room: usize,
-    next: &mut [u8],
-    outcome: &mut [u8],
-) -> Applied {
-    if next.len() < room {
-        return parts::refuse(0);
-    }
-    if outcome.len() < outcome_room {
-        return parts::refuse(0);
-    }
-    transition::apply(
-        image,
-        request,
-        &mut next[..room],
-        &mut outcome[..outcome_room],
-    )
-}
-
-fn apply_filled(
-    image: &[u8],
-    request: &[u8],
-    room: usize,
-    outcome_room: usize,
-    next: &mut [u8],
-    outcome: &mut [u8],
-) -> Applied {
-    fill(next);
-    fill(outcome);
-    apply(image, request, room, outcome_room, next, outcome)
-}
-
-// Whether a call gave the wanted number, lengths and bytes.
-fn gave(a: Applied, status: u32, next: &[u8], wanted: &[u8], outcome: &[u8], told: &[u8]) -> bool {
-    if a.status != status {
-        return false;
-    }
-    if a.image != wanted.len() {
-        return false;
-    }
-    if a.outcome != told.len() {
-        return false;
-    }
-    if !holds(next, wanted) {
-        return false;
-    }
-    holds(outcome, told)
-}
-
-fn apply_case(cases: &[u8], at: usize, image: Part, next: &mut [u8], outcome: &mut [u8]) -> Case
-    ensures { result.end ≤ length cases.now }
-{
-    let request = part_at(cases, at);
-    let rooms = end_of(cases, request);
-    let room = number_at(cases, rooms);
-    let outcome_room = number_at(cases, after(cases, rooms, 4));
-    let status = parts::u32_at(cases, after(cases, rooms, 8));
-    let wanted = part_at(cases, after(cases, rooms, 12));
-    let told = part_at(cases, end_of(cases, wanted));
-    let a = apply_filled(
-        bytes_of(cases, image),
-        bytes_of(cases, request),
-        room,
-        outcome_room,
-        next,
-        outcome,
-    );
-    Case {
-        end: end_of(cases, told),
-        image: if a.status == 0 { wanted } else { image },
-        answer: a.status,
-        same: gave(
-            a,
-            status,
-            next,
-            bytes_of(cases, wanted),
-            outcome,
-            bytes_of(cases, told),
-        ),
     }
 }
 
-fn number_case(cases: &[u8], at: usize, image: Part, answer: u32) -> Case
-    ensures { result.end ≤ length cases.now }
-{
-    Case {
-        end: after(cases, at, 4),
-        image,
-        answer,
-        same: answer == parts::u32_at(cases, at),
+// The image that stands, and what is lent to a call for the next image and the outcome.
+#[derive(Drop)]
+struct Replay<'a> {
+    image: &'a [u8],
+    next: [u8; 65536],
+    outcome: [u8; 16384],
+}
+
+impl<'a> Replay<'a> {
+    // One call with so much room in both lent slices, or none where there is not so much.
+    fn apply(&mut self, call: &Call) -> Option<Result<Lengths, Refusal>> {
+        self.next.fill(FILLING);
+        self.outcome.fill(FILLING);
+        let next = self.next.get_mut(..call.room)?;
+        let outcome = self.outcome.get_mut(..call.outcome_room)?;
+        Some(transition::apply(self.image, call.request, next, outcome))
+    }
+
+    // Whether a call gave the wanted lengths and bytes.
+    fn gave(&self, lengths: Lengths, call: &Call) -> bool {
+        lengths.image == call.next.len()
+            && lengths.outcome == call.outcome.len()
+            && holds(&self.next, call.next)
+            && holds(&self.outcome, call.outcome)
+    }
+
+    fn answer(&mut self, case: Case<'a>) -> Answer {
+        match case {
+            Case::Load { image } => {
+                self.image = image;
+                Answer {
+                    number: None,
+                    same: true,
+                }
+            }
+            Case::Apply(call) => {
+                let applied = self.apply(&call);
+                let number = match applied {
+                    Some(Err(refusal)) => refusal.number(),
+                    _ => 0,
+                };
+                // Where the room is not there: no call answers 0 and no image.
+                let lengths = match applied {
+                    Some(Ok(lengths)) => lengths,
+                    _ => Lengths {
+                        image: 0,
+                        outcome: 0,
+                    },
+                };
+                if number == 0 {
+                    self.image = call.next;
+                }
+                Answer {
+                    number: Some(number),
+                    same: number == call.status && self.gave(lengths, &call),
+                }
+            }
+            Case::Validate { token, expected } => {
+                let number = match validation::validate_active_snapshot_lease(self.image, token) {
+                    Ok(()) => 0,
+                    Err(error) => error.number(),
+                };
+                Answer::expecting(number, expected)
+            }
+            Case::Test { expected } => {
+                let number = match image::test_image(self.image) {
+                    Ok(()) => 0,
+                    Err(refusal) => refusal.number(),
+                };
+                Answer::expecting(number, expected)
+            }
+            Case::Unknown => Answer {
+                number: Some(0),
+                same: false,
+            },
+        }
     }
 }
 
-fn validate_case(cases: &[u8], at: usize, image: Part) -> Case
-    ensures { result.end ≤ length cases.now }
-{
-    let token = part_at(cases, at);
-    let answer = validation::validate_active_snapshot_lease(
-        bytes_of(cases, image),
-        bytes_of(cases, token),
-    );
-    number_case(cases, end_of(cases, token), image, answer)
+// What is printed of a case.
+#[derive(Clone, Copy)]
+struct Line<'a> {
+    count: u64,
+    case: Case<'a>,
+    answer: Answer,
 }
 
-fn test_case(cases: &[u8], at: usize, image: Part) -> Case
-    ensures { result.end ≤ length cases.now }
-{
-    number_case(cases, at, image, image::test_image(bytes_of(cases, image)))
-}
-
-fn load_case(cases: &[u8], at: usize) -> Case
-    ensures { result.end ≤ length cases.now }
-{
-    let image = part_at(cases, at);
-    Case {
-        end: end_of(cases, image),
-        image,
-        answer: 0,
-        same: true,
+impl fmt::Display for Line<'_> {
+    fn fmt<W: fmt::Write>(&self, f: &mut fmt::Formatter<W>) -> fmt::Result {
+        let count = self.count;
+        let kind = match self.case {
+            Case::Load { .. } => "load",
+            Case::Apply(_) => "apply",
+            Case::Validate { .. } => "validate",
+            Case::Test { .. } => "test",
+            Case::Unknown => "no case",
+        };
+        write!(f, "{count} {kind}")?;
+        if let Some(number) = self.answer.number {
+            write!(f, " {number}")?;
+        }
+        if !self.answer.same {
+            write!(f, " differs")?;
+        }
+        Ok(())
     }
-}
-
-// A kind that there is none of ends the run.
-fn no_case(cases: &[u8], image: Part) -> Case
-    ensures { result.end ≤ length cases.now }
-{
-    Case {
-        end: cases.len(),
-        image,
-        answer: 0,
-        same: false,
-    }
-}
-
-fn case_at(
-    cases: &[u8],
-    kind: u8,
-    at: usize,
-    image: Part,
-    next: &mut [u8],
-    outcome: &mut [u8],
-) -> Case
-    ensures { result.end ≤ length cases.now }
-{
-    match kind {
-        0 => load_case(cases, at),
-        1 => apply_case(cases, at, image, next, outcome),
-        2 => validate_case(cases, at, image),
-        3 => test_case(cases, at, image),
-        _ => no_case(cases, image),
-    }
-}
-
-fn write_kind(kind: u8) {
-    match kind {
-        0 => write(b" load"),
-        1 => write(b" apply "),
-        2 => write(b" validate "),
-        3 => write(b" test "),
-        _ => write(b" no case "),
-    }
-}
-
-fn write_line(count: u64, kind: u8, answer: u32, same: bool) {
-    write_number(count);
-    write_kind(kind);
-    if kind != 0 {
-        write_number(answer as u64);
-    }
-    if !same {
-        write(b" differs");
-    }
-    write(b"\n");
-}
-
-fn write_total(same: u64) {
-    write(b"same ");
-    write_number(same);
-    write(b"\n");
 }
 
 // Case by case, up to the end of the cases.
-fn run(cases: &[u8], next: &mut [u8], outcome: &mut [u8]) {
-    let mut at = 0;
-    let mut image = Part { at: 0, len: 0 };
-    let mut count: u64 = 0;
-    let mut same: u64 = 0;
-    while count < 18446744073709551615 {
-        if cases.len() <= at {
-            write_total(same);
-            return;
-        }
-        count += 1;
-        let kind = cases[at];
-        let done = case_at(cases, kind, at + 1, image, next, outcome);
-        write_line(count, kind, done.answer, done.same);
-        at = done.end;
-        image = done.image;
-        if done.same {
-            same += 1;
+fn run(rt: &impl Print, cases: &[u8]) -> io::Result<()> {
+    let mut replay = Replay {
+        image: &[],
+        next: [0; 65536],
+        outcome: [0; 16384],
+    };
+    let mut same = 0u64;
+    for (count, case) in (1u64..).zip(Cases { left: cases }) {
+        let answer = replay.answer(case);
+        let line = Line {
+            count,
+            case,
+            answer,
+        };
+        println!(rt; "{line}")?;
+        if answer.same {
+            same = same.saturating_add(1);
         }
     }
+    println!(rt; "same {same}")
 }
 
 // Room for the cases. Its clause says only the length: a proof that sees half a million zeros takes too long.
@@ -315,10 +280,9 @@ fn room_for_cases() -> [u8; 524288]
     [0; 524288]
 }
 
-fn main() {
+fn main(rt: HostRuntime) -> io::Result<()> {
     let mut cases = room_for_cases();
-    let mut next = [0u8; 65536];
-    let mut outcome = [0u8; 16384];
-    let n = io::read_full(STDIN, &mut cases);
-    run(parts::clip(&cases, 0, n), &mut next, &mut outcome);
+    let room = cases.len();
+    let read = io::copy(&mut rt.reader().take(room as u64), &mut &mut cases[..])?;
+    run(&rt, &cases[..room.min(read as usize)])
 }

@@ -1,7 +1,6 @@
 -- What cannot be read gives 41, 42 or 43, and never another number.
-use Rattle.std.specs.Prelude.{ℕ, zero, suc, ◌≤◌, ◌^◌, ◌≡◌, Bool, true, false, List, [], ◌∷◌, leb, ltb, length, take, drop}
+use Rattle.std.specs.Prelude.{ℕ, zero, suc, ◌≤◌, ◌^◌, ◌≡◌, Bool, true, false, List, [], ◌∷◌, leb, ltb, length, take, drop, Option, None, Some}
 use Rattle.std.proofs.Common.{arith, subst}
-use Rattle.std.proofs.Math.Option.{Option, none, some}
 use Rattle.text.specs.Utf8.{utf8}
 use Rattle.state.specs.Maps.{Text}
 use Rattle.fields.specs.Format.{Malformed, OverLimit, NotUtf8, Res, ok, bad, bind, check, byte, many, read_number, read_kind, read_option, read_text, after, rows, itself, read_set, Field, nothing, number, kind, text, option, set, ◌▹◌, dec}
@@ -67,11 +66,11 @@ rows-faults : {A : Type 0} (item : List ℕ → Res A) (key : A → Text) → ((
 unfolding rows
 rows-faults item key h zero p s = tt
 rows-faults item key h (suc n) p s =
-    binds (item s) _ (h s) (λ v r. checks (after p (key v)) Malformed _ malformed (binds (rows item key n (some (key v)) r) _ (rows-faults item key h n (some (key v)) r) (λ vs r. tt)))
+    binds (item s) _ (h s) (λ v r. checks (after p (key v)) Malformed _ malformed (binds (rows item key n (Some (key v)) r) _ (rows-faults item key h n (Some (key v)) r) (λ vs r. tt)))
 
 set-faults : (m n : ℕ) (s : List ℕ) → Faulty (read_set m n s)
 unfolding read_set
-set-faults m n s = binds (byte s) _ (byte-faults s) (λ k r. checks (leb k m) OverLimit _ over_limit (rows-faults (read_text n) itself (text-faults n) k none r))
+set-faults m n s = binds (byte s) _ (byte-faults s) (λ k r. checks (leb k m) OverLimit _ over_limit (rows-faults (read_text n) itself (text-faults n) k None r))
 
 dec-faults : (f : Field) (s : List ℕ) → Faulty (dec f s)
 unfolding dec read_number

@@ -1,4 +1,3 @@
-pub mod Steps
 pub mod Heads
 pub mod FlagLaws
 pub mod CaseLaws
@@ -11,3 +10,5 @@ pub mod RequestPlaces
 pub mod LimitLaws
 pub mod PeekLaws
 pub mod CheckedLaws
+pub mod TagLaws
+pub mod CursorLaws

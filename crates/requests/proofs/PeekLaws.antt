@@ -1,12 +1,12 @@
 -- A field read without checks, for bytes that were checked before: the value that was read, on bytes that decode.
-use Rattle.std.specs.Prelude.{ℕ, zero, suc, ◌≡◌, refl, List, [], ◌∷◌, leb, length, take, drop}
+use Rattle.std.specs.Prelude.{ℕ, zero, suc, ◌≡◌, refl, List, [], ◌∷◌, leb, length, take, drop, Option, Some}
 use Rattle.std.proofs.Common.{sym, ap, ◌∙◌, append-nil}
-use Rattle.std.proofs.Math.Option.{Option, some}
 use Rattle.parts.specs.Digits.{value}
 use Rattle.state.specs.Records.{ObjectKind}
 use Rattle.fields.specs.Format.{Malformed, Res, ok, many, read_number, read_kind, read_option, Field, nothing, number, kind, text, option, set, ◌▹◌, El, dec}
 use Rattle.fields.proofs.FormatLaws.{never, bind_ok, check-ok}
-use Rattle.fields.specs.Codes.{Code, codes, skip}
+use Rattle.fields.specs.declared.Code.{Code}
+use Rattle.fields.specs.Codes.{codes, skip}
 use Rattle.fields.proofs.CodeLaws.{skip-dec}
 use Rattle.fields.proofs.RowLaws.{text_here-read}
 use Rattle.sets.proofs.SetLaws.{set_of-read}
@@ -31,8 +31,8 @@ option_is item look g [] o r h = absurd (never Malformed o r h)
 option_is item look g (zero ∷ s) o r h = cc
 option_is item look g (suc zero ∷ s) o r h =
     let (v, r₁, e₁, h₁) = bind_ok (item s) _ o r h in
-    let q : some v ≡ o = cc in
-    ap some (g s v r₁ e₁) ∙ q
+    let q : Some v ≡ o = cc in
+    ap Some (g s v r₁ e₁) ∙ q
 option_is item look g (suc (suc k) ∷ s) o r h = absurd (never Malformed o r h)
 
 pub skip_field : (f : Field) (s : List ℕ) (v : El f) (r : List ℕ) → dec f s ≡ ok v r → skip 0 (codes f) s ≡ r

@@ -9,7 +9,8 @@ use Rattle.std.proofs.Math.ListN.{length, get_or, length-drop}
 use Rattle.parts.specs.DigitLaws.{length_digits}
 use Rattle.fields.specs.Format.{Field, nothing, number, kind, text, option, set, ◌▹◌, El, enc_text, enc, Within}
 use Rattle.fields.proofs.FormatLaws.{dec-enc}
-use Rattle.fields.specs.Codes.{Code, codes, skip, past, passed, is_absent}
+use Rattle.fields.specs.Codes.{codes, skip, past, passed, is_absent}
+use Rattle.fields.specs.declared.Code.{Code}
 use Rattle.fields.specs.Walks.{place_of}
 use Rattle.tables.specs.Skips.{skip-rest, after_record}
 use Rattle.image.specs.Shapes.{keys, reference, closure}
@@ -29,7 +30,7 @@ maybe-then true ds cs s h = over-then ds cs s
 maybe-then false ds cs s h = h
 
 skip-then : (f : Field) (cs : List Code) (s : List ℕ) → skip 0 (codes f ++ cs) s ≡ skip 0 cs (skip 0 (codes f) s)
-unfolding skip past passed codes
+unfolding skip past passed
 skip-then nothing cs s = refl
 skip-then (number k) cs s = refl
 skip-then kind cs s = refl
@@ -57,7 +58,7 @@ module _ (f : Field) (s : List ℕ) (p : ℕ) where
 
   -- a field of two is behind the second, from behind the first on
   pub behind_both : (g : Field) → behind (f ▹ g) s p ≡ behind g s (behind f s p)
-  unfolding behind codes
+  unfolding behind
   behind_both g = ap (place_of s) (skip-then f (codes g) (drop p s) ∙ ap (skip 0 (codes g)) (sym left))
 
 pub keys-end : (s : List ℕ) (p : ℕ) → p ≤ length s → (keys_in s p).at + (keys_in s p).len ≡ behind keys s p

@@ -2,10 +2,9 @@
 use Prim.Native.Nat.{ℕ, zero, suc, ◌+◌, ◌≤◌, ◌<◌, min}
 use native.Mathlib.Omega.{arith}
 use Rattle.std.proofs.Common.{add-one, sym, ap, ◌∙◌, subst, drop-drop, get_or-drop}
-use Rattle.std.specs.Prelude.{◌≡◌, Bool, List, [], ◌∷◌, eqb, drop, get_or}
+use Rattle.std.specs.Prelude.{◌≡◌, Bool, List, [], ◌∷◌, eqb, drop, get_or, Option, None, Some}
 use Rattle.std.proofs.Math.Path.{refl}
 use Rattle.std.proofs.Math.Bool.{true, false, cond}
-use Rattle.std.proofs.Math.Option.{none, some}
 use Rattle.std.proofs.Math.Dec.{leb}
 use Rattle.std.proofs.Math.ListN.{length, drop_of_length-le, get_or-eq_default}
 use Rattle.std.proofs.Math.Seq.{drop-cons}
@@ -23,9 +22,8 @@ use Rattle.requests.specs.Checked.{context, context_from, nth, peek_case, retire
 use Rattle.requests.specs.Meaning.{text_of, maybe_text_of, kind_of, keys_of, position_of, context_of, reference_of, maybe_reference_of, identity_of, closure_of, lease_token_of, job_token_of, receipt_of, permit_of, action_of}
 use Rattle.requests.specs.Positions.{behind, number_in, text_in, keys_in, either, kind_in, maybe_text_in, position_in, context_in, reference_in, maybe_reference_in, identity_in, closure_in, lease_token_in, job_token_in, receipt_in, permit_in, window_in, configure_in, acquire_in, renew_in, release_in, clock_in, collect_in, prepare_in, publish_in, pin_in, unpin_in, reserve_in, actions_in, action_in}
 use Rattle.requests.proofs.PositionLaws.{left, behind_both}
-use Rattle.image.specs.declared.MaybeText.{MaybeText}
 use Rattle.requests.specs.declared.ObjectKind.{ObjectKind as KindAt}
-use Rattle.requests.specs.declared.MaybeReference.{MaybeReference}
+use Rattle.requests.specs.declared.ObjectReference.{ObjectReference as ReferenceAt}
 use Rattle.requests.specs.declared.PublicationAction.{PublicationAction}
 
 -- the value of a field is what is read at its place
@@ -44,7 +42,7 @@ then_on {s} {f} {g} {k} {p} {v} {w} a b = then a (subst (λ (q : ℕ). Stands s 
 pub first_byte : (s : List ℕ) (p : ℕ) → get_or (drop p s) 0 0 ≡ get_or s p 0
 first_byte s p = get_or-drop p s 0 0 ∙ (let z : p + 0 ≡ p = omega arith in ap (λ (k : ℕ). get_or s k 0) z)
 
-maybe : {s : List ℕ} {f : Field} {v : El f} (p : ℕ) → Stands s f (p + 1) v → Stands s (option f) p (either s p none (some v))
+maybe : {s : List ℕ} {f : Field} {v : El f} (p : ℕ) → Stands s f (p + 1) v → Stands s (option f) p (either s p None (Some v))
 unfolding peek peek_option
 maybe {s} p a = record { is = rw (first_byte s p, drop-drop 1 p s, a.is) }
 
@@ -82,10 +80,10 @@ module _ (s : List ℕ) where
       go true = refl
       go false = refl
 
-  maybe_text_is : (p : ℕ) → maybe_text_of s (maybe_text_in s p) ≡ either s p none (some (text_of s (text_in s (p + 1))))
+  maybe_text_is : (p : ℕ) → maybe_text_of s (maybe_text_in s p) ≡ either s p None (Some (text_of s (text_in s (p + 1))))
   maybe_text_is p = go (eqb (get_or s p 0) 0)
     where
-      go : (b : Bool) → maybe_text_of s (cond b MaybeText.NoText (MaybeText.Text (text_in s (p + 1)))) ≡ cond b none (some (text_of s (text_in s (p + 1))))
+      go : (b : Bool) → maybe_text_of s (cond b None (Some (text_in s (p + 1)))) ≡ cond b None (Some (text_of s (text_in s (p + 1))))
       go true = refl
       go false = refl
 
@@ -109,11 +107,11 @@ module _ (s : List ℕ) where
   maybe_reference_stands : (p : ℕ) → Stands s (option reference) p (maybe_reference_parts p)
   maybe_reference_stands p = record { is = go (eqb (get_or s p 0) 0) ∙ (maybe p (reference-stands (p + 1))).is }
     where
-      go : (b : Bool) → each_option reference_parts (maybe_reference_of s (cond b MaybeReference.NoReference (MaybeReference.Reference (reference_in s (p + 1))))) ≡ cond b none (some (reference_parts (reference_of s (reference_in s (p + 1)))))
+      go : (b : Bool) → each_option reference_parts (maybe_reference_of s (cond b None (Some (reference_in s (p + 1))))) ≡ cond b None (Some (reference_parts (reference_of s (reference_in s (p + 1)))))
       go true = refl
       go false = refl
 
-  again : (m : MaybeReference) → maybe_reference_of s m ≡ each_option reference_from (each_option reference_parts (maybe_reference_of s m))
+  again : (m : Option ReferenceAt) → maybe_reference_of s m ≡ each_option reference_from (each_option reference_parts (maybe_reference_of s m))
   again m = sym (option-there reference_parts reference_from reference-there (maybe_reference_of s m))
 
   identity-stands : (p : ℕ) → Stands s identity p (identity_parts (identity_of s (identity_in s p)))

@@ -1,7 +1,6 @@
 -- A request or a token within the limits is read back; and what is read was written so and is within the limits.
-use Rattle.std.specs.Prelude.{ℕ, zero, suc, ◌+◌, ◌^◌, ◌<◌, ◌≡◌, refl, List, [], ◌∷◌, ◌++◌, ltb}
+use Rattle.std.specs.Prelude.{ℕ, zero, suc, ◌+◌, ◌^◌, ◌<◌, ◌≡◌, refl, List, [], ◌∷◌, ◌++◌, ltb, Option}
 use Rattle.std.proofs.Common.{arith, sym, ap, ◌∙◌, subst, append-nil, lt-ltb, ltb-true}
-use Rattle.std.proofs.Math.Option.{Option}
 use Rattle.parts.specs.Digits.{Bytes}
 use Rattle.parts.specs.DigitLaws.{bytes_right}
 use Rattle.state.specs.Records.{ObjectReference, SnapshotLeaseToken}

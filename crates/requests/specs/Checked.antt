@@ -1,7 +1,5 @@
 -- Checked first, then read without checks: together they are what reading to the end finds.
-use Prim.Native.Nat.{ℕ, zero, suc}
-use Rattle.std.proofs.Math.Path.{◌≡◌}
-use mathlib.Core.List.{List, [], ◌∷◌}
+use Rattle.std.specs.Prelude.{ℕ, zero, suc, List, [], ◌∷◌, Result, Ok, Err}
 use Rattle.state.specs.Records.{AuthorityContext}
 use Rattle.machine.specs.Actions.{Action, RetireDelete}
 use Rattle.fields.specs.Format.{Field, ◌▹◌, El}
@@ -10,7 +8,6 @@ use Rattle.image.specs.Shapes.{u64, position, permit, position_from, permit_from
 use Rattle.requests.specs.Cases.{Case}
 use Rattle.requests.specs.Request.{actions}
 use Rattle.requests.specs.Peek.{peek}
-use Rattle.requests.specs.declared.Checked.{Checked}
 
 abbrev pub context : Field
 context = u64 ▹ position
@@ -18,9 +15,10 @@ context = u64 ▹ position
 abbrev pub context_from : El context → AuthorityContext
 context_from v = record { generation = v.0; position = position_from v.1 }
 
-abbrev pub checked_of : {A : Type 0} → Reply A → Checked
-checked_of (answer v) = Checked.Whole
-checked_of (refusal e) = Checked.Fault e
+-- whether it was read, or its first fault
+abbrev pub checked_of : {A : Type 0} → Reply A → Result (Unit {0}) ℕ
+checked_of (answer v) = Ok tt
+checked_of (refusal e) = Err e
 
 -- ONE OF A LIST OF CASES
 abbrev pub nth : {A : Type 0} → A → List A → ℕ → A
@@ -40,8 +38,3 @@ action_case k = nth retire (retire ∷ actions) k
 
 abbrev pub peek_action : ℕ → List ℕ → Action
 peek_action k s = peek_case (action_case k) s
-
--- a byte that is none of 1 to n is 0 or past n
-abbrev pub Other : ℕ → ℕ → Type 0
-Other zero k = Unit {0}
-Other (suc n) k = Other n k × (k ≡ suc n → ⊥)

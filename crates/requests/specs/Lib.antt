@@ -7,3 +7,5 @@ pub mod Meaning
 pub mod Peek
 pub mod Checked
 pub mod Positions
+pub mod Cursors
+pub mod Tags

@@ -1,8 +1,7 @@
 -- Every limit of a request, a token and an outcome, by whole bytes. A row names a text or a set, and its limit: the bytes in which that has
 -- just its limit are read, and those with a byte or member more are refused with 42. The flags and the action byte: the last that is
 -- read, and the next.
-use Rattle.std.specs.Prelude.{ℕ, suc, Bool, ◌&&◌, List, [], ◌∷◌, ◌++◌, map, eqb, replicate}
-use Rattle.std.proofs.Math.Option.{none, some}
+use Rattle.std.specs.Prelude.{ℕ, suc, Bool, ◌&&◌, List, [], ◌∷◌, ◌++◌, map, eqb, replicate, None, Some}
 use Rattle.state.specs.Maps.{Text}
 use Rattle.state.specs.Records.{AuthorityContext, ObjectReference, SnapshotLeaseToken, CollectionJobToken, CollectionReceipt, no_faults}
 use Rattle.machine.specs.Actions.{Action, ConfigureCollectionRoot, AcquireLease, RenewLease, ReleaseLease, PrepareCollection, PublishCollection, AbandonCollection, Prepare, Publish, Pin, Unpin, ReserveDelete, RetireDelete, Outcome, LeasesExpired}
@@ -77,8 +76,8 @@ table =
     ∷ action_byte 17 37 0
     ∷ action_byte 18 37 Malformed
     -- ConfigureCollectionRoot
-    ∷ text (λ expected. ConfigureCollectionRoot (some expected) empty) 64
-    ∷ text (λ destination_root. ConfigureCollectionRoot none destination_root) 64
+    ∷ text (λ expected. ConfigureCollectionRoot (Some expected) empty) 64
+    ∷ text (λ destination_root. ConfigureCollectionRoot None destination_root) 64
     -- AcquireLease
     ∷ text (λ lease_id. acquire lease_id empty empty empty plain []) 64
     ∷ text (λ tenant_id. acquire empty tenant_id empty empty plain []) 64
@@ -114,43 +113,43 @@ table =
     ∷ text (λ destination_root. AbandonCollection (job empty plain destination_root empty)) 64
     ∷ text (λ output_namespace. AbandonCollection (job empty plain empty output_namespace)) 128
     -- Prepare: publication_id; object_keys; manifest; destination_root; expected_prior_root
-    ∷ text (λ publication-id. Prepare publication-id (intent [] plain empty none)) 64
-    ∷ set (λ object_keys. Prepare empty (intent object_keys plain empty none)) 16
-    ∷ text (λ object-key. Prepare empty (intent (object-key ∷ []) plain empty none)) 128
-    ∷ text (λ key. Prepare empty (intent [] (reference key empty) empty none)) 128
-    ∷ text (λ sha256. Prepare empty (intent [] (reference empty sha256) empty none)) 64
-    ∷ text (λ destination_root. Prepare empty (intent [] plain destination_root none)) 64
-    ∷ text (λ key. Prepare empty (intent [] plain empty (some (reference key empty)))) 128
-    ∷ text (λ sha256. Prepare empty (intent [] plain empty (some (reference empty sha256)))) 64
+    ∷ text (λ publication-id. Prepare publication-id (intent [] plain empty None)) 64
+    ∷ set (λ object_keys. Prepare empty (intent object_keys plain empty None)) 16
+    ∷ text (λ object-key. Prepare empty (intent (object-key ∷ []) plain empty None)) 128
+    ∷ text (λ key. Prepare empty (intent [] (reference key empty) empty None)) 128
+    ∷ text (λ sha256. Prepare empty (intent [] (reference empty sha256) empty None)) 64
+    ∷ text (λ destination_root. Prepare empty (intent [] plain destination_root None)) 64
+    ∷ text (λ key. Prepare empty (intent [] plain empty (Some (reference key empty)))) 128
+    ∷ text (λ sha256. Prepare empty (intent [] plain empty (Some (reference empty sha256)))) 64
     -- Publish: publication_id, destination_root; expected_prior_root; manifest
-    ∷ text (λ publication-id. Publish publication-id empty none plain) 64
-    ∷ text (λ destination_root. Publish empty destination_root none plain) 64
-    ∷ text (λ key. Publish empty empty (some (reference key empty)) plain) 128
-    ∷ text (λ sha256. Publish empty empty (some (reference empty sha256)) plain) 64
-    ∷ text (λ key. Publish empty empty none (reference key empty)) 128
-    ∷ text (λ sha256. Publish empty empty none (reference empty sha256)) 64
+    ∷ text (λ publication-id. Publish publication-id empty None plain) 64
+    ∷ text (λ destination_root. Publish empty destination_root None plain) 64
+    ∷ text (λ key. Publish empty empty (Some (reference key empty)) plain) 128
+    ∷ text (λ sha256. Publish empty empty (Some (reference empty sha256)) plain) 64
+    ∷ text (λ key. Publish empty empty None (reference key empty)) 128
+    ∷ text (λ sha256. Publish empty empty None (reference empty sha256)) 64
     -- Pin: pin_id; expected; manifest
-    ∷ text (λ pin-id. Pin pin-id none plain) 64
-    ∷ text (λ key. Pin empty (some (reference key empty)) plain) 128
-    ∷ text (λ sha256. Pin empty (some (reference empty sha256)) plain) 64
-    ∷ text (λ key. Pin empty none (reference key empty)) 128
-    ∷ text (λ sha256. Pin empty none (reference empty sha256)) 64
+    ∷ text (λ pin-id. Pin pin-id None plain) 64
+    ∷ text (λ key. Pin empty (Some (reference key empty)) plain) 128
+    ∷ text (λ sha256. Pin empty (Some (reference empty sha256)) plain) 64
+    ∷ text (λ key. Pin empty None (reference key empty)) 128
+    ∷ text (λ sha256. Pin empty None (reference empty sha256)) 64
     -- Unpin: pin_id; expected
     ∷ text (λ pin-id. Unpin pin-id plain) 64
     ∷ text (λ key. Unpin empty (reference key empty)) 128
     ∷ text (λ sha256. Unpin empty (reference empty sha256)) 64
     -- ReserveDelete
-    ∷ text (λ plan_id. ReserveDelete plan_id 0 empty (identity none none empty)) 64
-    ∷ text (λ key. ReserveDelete empty 0 key (identity none none empty)) 128
-    ∷ text (λ e_tag. ReserveDelete empty 0 empty (identity (some e_tag) none empty)) 64
-    ∷ text (λ version. ReserveDelete empty 0 empty (identity none (some version) empty)) 64
-    ∷ text (λ sha256. ReserveDelete empty 0 empty (identity none none sha256)) 64
+    ∷ text (λ plan_id. ReserveDelete plan_id 0 empty (identity None None empty)) 64
+    ∷ text (λ key. ReserveDelete empty 0 key (identity None None empty)) 128
+    ∷ text (λ e_tag. ReserveDelete empty 0 empty (identity (Some e_tag) None empty)) 64
+    ∷ text (λ version. ReserveDelete empty 0 empty (identity None (Some version) empty)) 64
+    ∷ text (λ sha256. ReserveDelete empty 0 empty (identity None None sha256)) 64
     -- RetireDelete
-    ∷ text (λ key. RetireDelete (permit key (identity none none empty) empty)) 128
-    ∷ text (λ e_tag. RetireDelete (permit empty (identity (some e_tag) none empty) empty)) 64
-    ∷ text (λ version. RetireDelete (permit empty (identity none (some version) empty) empty)) 64
-    ∷ text (λ sha256. RetireDelete (permit empty (identity none none sha256) empty)) 64
-    ∷ text (λ plan_id. RetireDelete (permit empty (identity none none empty) plan_id)) 64
+    ∷ text (λ key. RetireDelete (permit key (identity None None empty) empty)) 128
+    ∷ text (λ e_tag. RetireDelete (permit empty (identity (Some e_tag) None empty) empty)) 64
+    ∷ text (λ version. RetireDelete (permit empty (identity None (Some version) empty) empty)) 64
+    ∷ text (λ sha256. RetireDelete (permit empty (identity None None sha256) empty)) 64
+    ∷ text (λ plan_id. RetireDelete (permit empty (identity None None empty) plan_id)) 64
     -- a token
     ∷ token_text (λ lease_id. lease lease_id empty empty empty plain []) 64
     ∷ token_text (λ tenant_id. lease empty tenant_id empty empty plain []) 64
@@ -166,6 +165,6 @@ table =
     -- the requests with a set, and a token, with all their texts and sets at their limits
     ∷ text (λ object-key. acquire (letters 64) (letters 64) (letters 64) (letters 64) full (full_keys object-key)) 128
     ∷ text (λ object-key. PublishCollection (receipt (job (letters 64) full (letters 64) (letters 128)) full (full_keys object-key))) 128
-    ∷ text (λ object-key. Prepare (letters 64) (intent (full_keys object-key) full (letters 64) (some full))) 128
+    ∷ text (λ object-key. Prepare (letters 64) (intent (full_keys object-key) full (letters 64) (Some full))) 128
     ∷ token_text (λ object-key. lease (letters 64) (letters 64) (letters 64) (letters 64) full (full_keys object-key)) 128
     ∷ []

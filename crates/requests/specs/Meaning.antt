@@ -1,13 +1,11 @@
 -- What a request read by place means: the value that stands in the request at each place.
-use Rattle.std.specs.Prelude.{ℕ, List, take, drop}
-use Rattle.std.proofs.Math.Option.{Option, none, some}
+use Rattle.std.specs.Prelude.{ℕ, List, take, drop, Option, None, Some, Result, Ok, Err}
 use Rattle.state.specs.Maps.{Text}
 use Rattle.state.specs.Records.{ObjectKind, Data, Manifest, AuthorityPosition, AuthorityContext, PublicationAuthorityFaults, ObjectReference, ObjectIdentity, PublicationIntent, SnapshotClosure, SnapshotLeaseToken, CollectionJobToken, CollectionReceipt, DeletePermit}
 use Rattle.machine.specs.Actions.{Action}
 use Rattle.machine.specs.Actions as machine
 use Rattle.image.specs.Contents.{Reply, answer, refusal}
 use Rattle.image.specs.declared.TextAt.{TextAt}
-use Rattle.image.specs.declared.MaybeText.{MaybeText}
 use Rattle.sets.specs.Sets.{set_of}
 use Rattle.requests.specs.Request.{Request}
 use Rattle.requests.specs.declared.ObjectKind.{ObjectKind as KindAt}
@@ -16,7 +14,6 @@ use Rattle.requests.specs.declared.AuthorityPosition.{AuthorityPosition as Posit
 use Rattle.requests.specs.declared.AuthorityContext.{AuthorityContext as ContextAt}
 use Rattle.requests.specs.declared.PublicationAuthorityFaults.{PublicationAuthorityFaults as FaultsAt}
 use Rattle.requests.specs.declared.ObjectReference.{ObjectReference as ReferenceAt}
-use Rattle.requests.specs.declared.MaybeReference.{MaybeReference}
 use Rattle.requests.specs.declared.ObjectIdentity.{ObjectIdentity as IdentityAt}
 use Rattle.requests.specs.declared.PublicationIntent.{PublicationIntent as IntentAt}
 use Rattle.requests.specs.declared.SnapshotClosure.{SnapshotClosure as ClosureAt}
@@ -26,15 +23,13 @@ use Rattle.requests.specs.declared.CollectionReceipt.{CollectionReceipt as Recei
 use Rattle.requests.specs.declared.DeletePermit.{DeletePermit as PermitAt}
 use Rattle.requests.specs.declared.PublicationAction.{PublicationAction}
 use Rattle.requests.specs.declared.Request.{Request as RequestAt}
-use Rattle.requests.specs.declared.Parsed.{Parsed}
-use Rattle.requests.specs.declared.ParsedToken.{ParsedToken}
 
 abbrev pub text_of : List ℕ → TextAt → Text
 text_of s t = take t.len (drop t.at s)
 
-abbrev pub maybe_text_of : List ℕ → MaybeText → Option Text
-maybe_text_of s MaybeText.NoText = none
-maybe_text_of s (MaybeText.Text t) = some (text_of s t)
+abbrev pub maybe_text_of : List ℕ → Option TextAt → Option Text
+maybe_text_of s None = None
+maybe_text_of s (Some t) = Some (text_of s t)
 
 abbrev pub kind_of : KindAt → ObjectKind
 kind_of KindAt.Data = Data
@@ -68,9 +63,9 @@ module _ (s : List ℕ) where
   abbrev pub reference_of : ReferenceAt → ObjectReference
   reference_of r = record { kind = kind_of r.kind; key = text_of s r.key; length = r.length; sha256 = text_of s r.sha256 }
 
-  abbrev pub maybe_reference_of : MaybeReference → Option ObjectReference
-  maybe_reference_of MaybeReference.NoReference = none
-  maybe_reference_of (MaybeReference.Reference r) = some (reference_of r)
+  abbrev pub maybe_reference_of : Option ReferenceAt → Option ObjectReference
+  maybe_reference_of None = None
+  maybe_reference_of (Some r) = Some (reference_of r)
 
   abbrev pub identity_of : IdentityAt → ObjectIdentity
   identity_of i = record { revision = record { e_tag = maybe_text_of s i.e_tag; version = maybe_text_of s i.version }; length = i.length; sha256 = text_of s i.sha256 }
@@ -140,10 +135,10 @@ module _ (s : List ℕ) where
   abbrev pub request_of : RequestAt → Request
   request_of r = record { context = context_of r.context; faults = faults_of r.faults; action = action_of r.action }
 
-  abbrev pub parsed_of : Parsed → Reply Request
-  parsed_of (Parsed.Fault e) = refusal e
-  parsed_of (Parsed.Asked r) = answer (request_of r)
+  abbrev pub parsed_of : Result RequestAt ℕ → Reply Request
+  parsed_of (Ok r) = answer (request_of r)
+  parsed_of (Err e) = refusal e
 
-  abbrev pub token_read_of : ParsedToken → Reply SnapshotLeaseToken
-  token_read_of (ParsedToken.Fault e) = refusal e
-  token_read_of (ParsedToken.Token t) = answer (lease_token_of t)
+  abbrev pub token_read_of : Result LeaseTokenAt ℕ → Reply SnapshotLeaseToken
+  token_read_of (Ok t) = answer (lease_token_of t)
+  token_read_of (Err e) = refusal e

@@ -1,6 +1,5 @@
 -- A field read without checks, for bytes that were checked before: the value that was read, on bytes that decode.
-use Rattle.std.specs.Prelude.{ℕ, cond, List, eqb, take, drop, get_or}
-use Rattle.std.proofs.Math.Option.{Option, none, some}
+use Rattle.std.specs.Prelude.{ℕ, cond, List, eqb, take, drop, get_or, Option, None, Some}
 use Rattle.parts.specs.Digits.{value}
 use Rattle.state.specs.Records.{ObjectKind, Data, Manifest}
 use Rattle.fields.specs.Format.{Field, nothing, number, kind, text, option, set, ◌▹◌, El}
@@ -13,7 +12,7 @@ unfoldable pub peek_kind : List ℕ → ObjectKind
 peek_kind s = cond (eqb (get_or s 0 0) 0) Data Manifest
 
 unfoldable pub peek_option : {A : Type 0} → (List ℕ → A) → List ℕ → Option A
-peek_option item s = cond (eqb (get_or s 0 0) 0) none (some (item (drop 1 s)))
+peek_option item s = cond (eqb (get_or s 0 0) 0) None (Some (item (drop 1 s)))
 
 unfoldable pub peek : (f : Field) → List ℕ → El f
 peek nothing s = tt

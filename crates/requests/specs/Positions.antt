@@ -1,5 +1,5 @@
 -- Where each field of a request or token stands: right behind the field before it. Total: behind the end of the bytes is the end.
-use Rattle.std.specs.Prelude.{ℕ, ◌+◌, ◌-◌, min, cond, List, [], ◌∷◌, eqb, length, take, drop, get_or}
+use Rattle.std.specs.Prelude.{ℕ, ◌+◌, ◌-◌, ◌^◌, min, cond, List, [], ◌∷◌, eqb, length, take, ltb, drop, get_or, Option, None, Some, Result, Ok, Err}
 use Rattle.parts.specs.Digits.{value}
 use Rattle.state.specs.Records.{PublicationAuthorityFaults}
 use Rattle.fields.specs.Format as format
@@ -8,7 +8,6 @@ use Rattle.fields.specs.Walks.{place_of}
 use Rattle.image.specs.Contents.{Reply, answer, refusal}
 use Rattle.image.specs.Shapes as shape
 use Rattle.image.specs.declared.TextAt.{TextAt}
-use Rattle.image.specs.declared.MaybeText.{MaybeText}
 use Rattle.requests.specs.Flags.{faults_from}
 use Rattle.requests.specs.Checked.{nth}
 use Rattle.requests.specs.declared.ObjectKind.{ObjectKind}
@@ -17,7 +16,6 @@ use Rattle.requests.specs.declared.AuthorityPosition.{AuthorityPosition}
 use Rattle.requests.specs.declared.AuthorityContext.{AuthorityContext}
 use Rattle.requests.specs.declared.PublicationAuthorityFaults.{PublicationAuthorityFaults as FaultsAt}
 use Rattle.requests.specs.declared.ObjectReference.{ObjectReference}
-use Rattle.requests.specs.declared.MaybeReference.{MaybeReference}
 use Rattle.requests.specs.declared.ObjectIdentity.{ObjectIdentity}
 use Rattle.requests.specs.declared.PublicationIntent.{PublicationIntent}
 use Rattle.requests.specs.declared.SnapshotClosure.{SnapshotClosure}
@@ -39,8 +37,6 @@ use Rattle.requests.specs.declared.Unpin.{Unpin}
 use Rattle.requests.specs.declared.ReserveDelete.{ReserveDelete}
 use Rattle.requests.specs.declared.PublicationAction.{PublicationAction}
 use Rattle.requests.specs.declared.Request.{Request}
-use Rattle.requests.specs.declared.Parsed.{Parsed}
-use Rattle.requests.specs.declared.ParsedToken.{ParsedToken}
 
 -- the place behind a field f that starts at p
 unfoldable pub behind : format.Field → List ℕ → ℕ → ℕ
@@ -61,6 +57,10 @@ faults_at f = record {
   advance_collection_without_publication = f.advance_collection_without_publication;
   ignore_collection_input_root = f.ignore_collection_input_root;
 }
+
+-- what a number of flags is read as: one past the last flag is none
+abbrev pub flags_in : ℕ → Result FaultsAt ℕ
+flags_in n = cond (ltb n (2 ^ 11)) (Ok (faults_at (faults_from n))) (Err format.Malformed)
 
 -- generation, term and index take eight bytes each, then come two bytes of flags, the action byte, and its fields
 abbrev pub flags_place : ℕ
@@ -90,8 +90,8 @@ module _ (s : List ℕ) where
   abbrev pub kind_in : ℕ → ObjectKind
   kind_in p = either p ObjectKind.Data ObjectKind.Manifest
 
-  abbrev pub maybe_text_in : ℕ → MaybeText
-  maybe_text_in p = either p MaybeText.NoText (MaybeText.Text (text_in (p + 1)))
+  abbrev pub maybe_text_in : ℕ → Option TextAt
+  maybe_text_in p = either p None (Some (text_in (p + 1)))
 
   -- RECORDS: in each, a name of a field is the place where that field starts
   abbrev pub position_in : ℕ → AuthorityPosition
@@ -111,8 +111,8 @@ module _ (s : List ℕ) where
       let sha256 = behind shape.u64 s length in
       record { kind = kind_in kind; key = text_in key; length = number_in length; sha256 = text_in sha256 }
 
-  abbrev pub maybe_reference_in : ℕ → MaybeReference
-  maybe_reference_in p = either p MaybeReference.NoReference (MaybeReference.Reference (reference_in (p + 1)))
+  abbrev pub maybe_reference_in : ℕ → Option ObjectReference
+  maybe_reference_in p = either p None (Some (reference_in (p + 1)))
 
   abbrev pub identity_in : ℕ → ObjectIdentity
   identity_in e_tag =
@@ -341,10 +341,10 @@ module _ (s : List ℕ) where
     action = action_in (get_or s action_place 0) fields_place;
   }
 
-  abbrev pub parsed_in : {A : Type 0} → Reply A → Parsed
-  parsed_in (answer q) = Parsed.Asked request_in
-  parsed_in (refusal e) = Parsed.Fault e
+  abbrev pub parsed_in : {A : Type 0} → Reply A → Result Request ℕ
+  parsed_in (answer q) = Ok request_in
+  parsed_in (refusal e) = Err e
 
-  abbrev pub token_in : {A : Type 0} → Reply A → ParsedToken
-  token_in (answer t) = ParsedToken.Token (lease_token_in 0)
-  token_in (refusal e) = ParsedToken.Fault e
+  abbrev pub token_in : {A : Type 0} → Reply A → Result SnapshotLeaseToken ℕ
+  token_in (answer t) = Ok (lease_token_in 0)
+  token_in (refusal e) = Err e

@@ -9,7 +9,8 @@ use Rattle.state.proofs.Places.{at, first_value, lookup-is}
 use Rattle.state.specs.Sorted.{Ascending}
 use Rattle.state.specs.Records.{State}
 use Rattle.fields.specs.Format.{all, Every, enc, enc_text}
-use Rattle.fields.specs.Codes.{Code, codes}
+use Rattle.fields.specs.declared.Code.{Code}
+use Rattle.fields.specs.Codes.{codes}
 use Rattle.tables.specs.Seek.{seek, row_of}
 use Rattle.tables.specs.SeekLaws.{Hopped}
 use Rattle.image.specs.Shapes.{permit}

@@ -1,121 +1,83 @@
 // Keys of a set that are ids of rows of a table: what a publication or a lease names and a reservation holds.
 #![tactic(auto)]
 
-ghost use Rattle.std.specs.Prelude.{◌≡◌, not, ◌&&◌, drop};
+ghost use Rattle.std.specs.Prelude.{◌≡◌, false, not, ◌&&◌, drop, IfNone, IfSome};
 ghost use Rattle.state.specs.Maps.{any};
-ghost use Rattle.fields.specs.Codes.{codes_of};
 ghost use Rattle.sets.specs.Sets.{set_of};
 ghost use Rattle.reserved.specs.Located.{located_in, reserved_in};
-ghost use Rattle.reserved.specs.Passed.{Passed};
+ghost use Rattle.reserved.specs.Passed.{Reached, Passed};
 
+use fields::Code;
 use image::Table;
-use text::Order;
+use std::cmp::Ordering;
 
-// Where a search stopped: at a row, with so many rows from it on, and whether it has the id.
+// The rows of a table from one on: where it starts, and how many they are.
 #[derive(Clone, Copy)]
-struct Stop {
+struct Rest {
     at: usize,
-    left: usize,
-    found: bool,
+    rows: usize,
 }
 
 // Whether a row of the table has the id.
-pub fn located(codes: &[u8], s: &[u8], at: usize, n: usize, id: &[u8]) -> bool
-    ensures { result ≡ located_in (codes_of codes.now) n (drop at s.now) id.now }
+#[tactic(auto, unfolding(crate::specs::Located::located_in))]
+pub fn located(codes: &[Code], s: &[u8], at: usize, n: usize, id: &[u8]) -> bool
+    ensures { result ≡ located_in codes.now n (drop at s.now) id.now }
 {
-    let row = tables::find(codes, s, at, n, id);
-    if row.len() == 0 {
-        return false;
-    }
-    true
+    !tables::find(codes, s, at, n, id).is_empty()
 }
 
-// Goes over the rows before an id, which are before all later ids too.
-fn reach(codes: &[u8], s: &[u8], at: usize, n: usize, id: &[u8]) -> Stop
-    ensures { (result.found ≡ located_in (codes_of codes.now) n (drop at s.now) id.now) × Passed (codes_of codes.now) n (drop at s.now) id.now result.left (drop result.at s.now) }
+// Goes over the rows before an id, which are before all later ids too; none is left where a row has the id.
+#[tactic(auto, using(crate::proofs::Steps::reach_steps))]
+fn reach(codes: &[Code], s: &[u8], from: Rest, id: &[u8]) -> Option<Rest>
+    ensures { Reached codes.now from.rows s.now (drop from.at s.now) id.now result }
 {
-    let mut p = at;
-    let mut left = n;
-    while left != 0 {
-        let c = text::compare(id, fields::text_at(s, p));
-        let o = c.order;
-        match o {
-            Order::Less => {
-                return Stop {
-                    at: p,
-                    left,
-                    found: false,
-                };
+    let mut to = from;
+    for _ in 0..from.rows {
+        match text::compare(id, fields::text_at(s, to.at)).order {
+            Ordering::Less => return Some(to),
+            Ordering::Equal => {
+                return (!located(codes, s, to.at, to.rows, id)).then_some(to);
             }
-            Order::Equal => {
-                return Stop {
-                    at: p,
-                    left,
-                    found: located(codes, s, p, left, id),
+            Ordering::Greater => {
+                to = Rest {
+                    at: tables::skip_record(codes, s, to.at),
+                    rows: to.rows - 1,
                 };
-            }
-            Order::Greater => {
-                p = tables::skip_record(codes, s, p);
             }
         }
-        left -= 1;
     }
-    Stop {
-        at: p,
-        left,
-        found: false,
-    }
+    Some(to)
 }
 
 // The search for an id, from where the search for the last one stopped if this one is later, else from the first row.
-fn resume(codes: &[u8], s: &[u8], at: usize, n: usize, last: &[u8], from: Stop, id: &[u8]) -> Stop
-    requires { Passed (codes_of codes.now) n (drop at s.now) last.now from.left (drop from.at s.now) }
-    ensures { (result.found ≡ located_in (codes_of codes.now) n (drop at s.now) id.now) × Passed (codes_of codes.now) n (drop at s.now) id.now result.left (drop result.at s.now) }
+#[tactic(auto, using(crate::proofs::Steps::reached_on))]
+fn resume(codes: &[Code], s: &[u8], all: Rest, last: &[u8], from: Rest, id: &[u8]) -> Option<Rest>
+    requires { Passed codes.now all.rows (drop all.at s.now) last.now from.rows (drop from.at s.now) }
+    ensures { Reached codes.now all.rows s.now (drop all.at s.now) id.now result }
 {
-    let c = text::compare(last, id);
-    let o = c.order;
-    match o {
-        Order::Less => reach(codes, s, from.at, from.left, id),
-        Order::Equal => reach(codes, s, at, n, id),
-        Order::Greater => reach(codes, s, at, n, id),
+    if text::compare(last, id).order.is_lt() {
+        return reach(codes, s, from, id);
     }
+    reach(codes, s, all, id)
 }
 
 // Whether a row of the table has a key of the set that stands at a place of a request or a row as its id.
-fn any_located(codes: &[u8], s: &[u8], at: usize, n: usize, holder: &[u8], set_at: usize) -> bool
-    ensures { result ≡ any (located_in (codes_of codes.now) n (drop at s.now)) (set_of (drop set_at holder.now)) }
+#[tactic(auto, using(crate::proofs::Steps::set_steps))]
+fn any_located(codes: &[Code], s: &[u8], at: usize, n: usize, holder: &[u8], set_at: usize) -> bool
+    ensures { result ≡ any (located_in codes.now n (drop at s.now)) (set_of (drop set_at holder.now)) }
 {
-    if holder.len() <= set_at {
-        return false;
-    }
     if n == 0 {
         return false;
     }
-    let keys = holder[set_at];
-    let mut i = 0;
-    let mut p = set_at + 1;
-    let mut last = p;
-    let mut stop = Stop {
-        at,
-        left: n,
-        found: false,
-    };
-    while i < keys {
-        stop = resume(
-            codes,
-            s,
-            at,
-            n,
-            fields::text_at(holder, last),
-            stop,
-            fields::text_at(holder, p),
-        );
-        if stop.found {
+    let all = Rest { at, rows: n };
+    let mut from = all;
+    let mut last: &[u8] = &[];
+    for key in sets::keys(holder, set_at) {
+        let Some(rest) = resume(codes, s, all, last, from, key) else {
             return true;
-        }
-        last = p;
-        p = tables::skip_record(&[fields::KEY], holder, p);
-        i += 1;
+        };
+        from = rest;
+        last = key;
     }
     false
 }
@@ -130,15 +92,13 @@ pub fn is_reserved(
 ) -> bool
     ensures { result ≡ (not ignore && reserved_in image.now reservations (set_of (drop keys holder.now))) }
 {
-    if ignore {
-        return false;
-    }
-    any_located(
-        &image::PERMIT,
-        image,
-        reservations.at,
-        reservations.count,
-        holder,
-        keys,
-    )
+    !ignore
+        && any_located(
+            &image::PERMIT,
+            image,
+            reservations.at,
+            reservations.count,
+            holder,
+            keys,
+        )
 }

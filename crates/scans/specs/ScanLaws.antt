@@ -4,8 +4,8 @@ use Rattle.std.proofs.Common.{append_assoc, sym, ap, ◌∙◌}
 use Rattle.state.specs.Maps.{Text, Map, Entry, ◌⟼◌, key_of, same, starts_with, contains, any, any_value}
 use Rattle.state.specs.Records.{PreparedPublication, SnapshotLeaseToken, CollectionJobToken, State, names}
 use Rattle.fields.specs.Format.{Field, option, set, ◌▹◌, El, enc, enc_text, all}
-use Rattle.fields.specs.Codes.{Code, codes, skip, set_most, key_limit, codes_of, shape}
-use Rattle.fields.proofs.CodeLaws.{shape-codes}
+use Rattle.fields.specs.declared.Code.{Code}
+use Rattle.fields.specs.Codes.{codes, skip, set_most, key_limit}
 use Rattle.fields.specs.Rows.{text_here}
 use Rattle.fields.proofs.RowLaws.{text-there}
 use Rattle.sets.specs.Sets.{texts_of, set_of}
@@ -110,17 +110,13 @@ job-uses k j t r =
 
 -- THE SCANS OF A STATE'S TABLES
 module _ {x : List ℕ} {c : Contents} {s : State} (h : Holds x c s) (f : Formed s) (k : Text) where
-  pub intents-name : any (names_at (codes_of (shape before_intent_keys)) k) (rows_at (codes_of (shape (row_format intents))) (table_in intents c).count (drop (table_in intents c).at x))
+  pub intents-name : any (names_at (codes before_intent_keys) k) (rows_at (codes (row_format intents)) (table_in intents c).count (drop (table_in intents c).at x))
       ≡ any_value (λ prepared. contains k prepared.intent.object_keys) s.intents
-  intents-name =
-      (λ i. any (names_at (shape-codes before_intent_keys refl i) k) (rows_at (shape-codes (row_format intents) refl i) (table_in intents c).count (drop (table_in intents c).at x)))
-      ∙ any_here h f intents (names_at (codes before_intent_keys) k) (λ p. contains k p.intent.object_keys) (intent-names k)
+  intents-name = any_here h f intents (names_at (codes before_intent_keys) k) (λ p. contains k p.intent.object_keys) (intent-names k)
 
-  pub leases-name : any (names_at (codes_of (shape before_closure_keys)) k) (rows_at (codes_of (shape lease)) (table_in leases c).count (drop (table_in leases c).at x))
+  pub leases-name : any (names_at (codes before_closure_keys) k) (rows_at (codes lease) (table_in leases c).count (drop (table_in leases c).at x))
       ≡ any_value (λ lease. names lease.closure k) s.leases
-  leases-name =
-      (λ i. any (names_at (shape-codes before_closure_keys refl i) k) (rows_at (shape-codes lease refl i) (table_in leases c).count (drop (table_in leases c).at x)))
-      ∙ any_here h f leases (names_at (codes before_closure_keys) k) (λ t. names t.closure k) (lease-names k)
+  leases-name = any_here h f leases (names_at (codes before_closure_keys) k) (λ t. names t.closure k) (lease-names k)
 
   pub jobs_use : any (uses_at k) (rows_at (codes job) (table_in jobs c).count (drop (table_in jobs c).at x)) ≡ any_value (uses k) s.collection_jobs
   jobs_use = any_here h f jobs (uses_at k) (uses k) (job-uses k)

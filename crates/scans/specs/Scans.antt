@@ -1,7 +1,8 @@
 -- What a row says of a key, by the row's bytes.
 use Rattle.std.specs.Prelude.{ℕ, List, Bool, ◌||◌}
 use Rattle.state.specs.Maps.{Text, same, starts_with, contains}
-use Rattle.fields.specs.Codes.{Code, codes, skip}
+use Rattle.fields.specs.declared.Code.{Code}
+use Rattle.fields.specs.Codes.{codes, skip}
 use Rattle.fields.specs.Rows.{text_here}
 use Rattle.sets.specs.Sets.{set_of}
 use Rattle.image.specs.Shapes.{before_manifest_key, before_namespace}

@@ -1,16 +1,15 @@
 -- Laws of texts and maps. None of them needs the order of the keys.
 -- Assumes nothing.
-use Rattle.std.specs.Prelude.{ℕ, ◌≡◌, Bool, true, false, ◌||◌}
+use Rattle.std.specs.Prelude.{ℕ, ◌≡◌, Bool, true, false, ◌||◌, Option, None, Some}
 use Rattle.std.proofs.Math.Path.{refl, ap}
 use Rattle.std.proofs.Common.{sym, ◌∙◌, subst, arith}
 use mathlib.Core.List.{List, [], ◌∷◌, map}
-use Rattle.std.proofs.Math.Option.{Option, none, some}
 use Rattle.std.proofs.Math.Bool.{cond}
 use Rattle.text.specs.Order.{order_of}
 use Rattle.text.proofs.OrderLaws.{order_equal, order_refl}
 use Rattle.text.specs.SameLaws.{same_refl, same_true, same_of_eq}
-use Rattle.text.specs.declared.Order.{Order}
-use Rattle.text.specs.declared.Order.TheVariants.{Less, Equal, Greater}
+use Rattle.std.specs.declared.cmp.Ordering.{Ordering}
+use Rattle.std.specs.declared.cmp.Ordering.TheVariants.{Less, Equal, Greater}
 use Rattle.state.specs.Maps.{Text, same, is_less, Every, any, contains, select, is_some, side, Map, ◌⟼◌, key_of, lookup, insert, remove, remove_all, any_value, entries_where, keys_where, map_values}
 use Rattle.state.specs.Sorted.{Found, Each}
 
@@ -18,12 +17,12 @@ use Rattle.state.specs.Sorted.{Found, Each}
 pub no_way {ℓ} : {A : Type ℓ} {x : Bool} → x ≡ true → x ≡ false → A
 no_way p q = let z : ◌≡◌ {A = ℕ} 0 1 = cc in absurd (omega arith)
 
-pub option_clash {ℓ} : {A : Type 0} {B : Type ℓ} {x : A} → ◌≡◌ {A = Option A} none (some x) → B
+pub option_clash {ℓ} : {A : Type 0} {B : Type ℓ} {x : A} → ◌≡◌ {A = Option A} None (Some x) → B
 option_clash p = let z : ◌≡◌ {A = ℕ} 0 1 = cc in absurd (omega arith)
 
-pub is_none : {A : Type 0} (o : Option A) → is_some o ≡ false → o ≡ none
-is_none none e = refl
-is_none (some x) e = cc
+pub is_none : {A : Type 0} (o : Option A) → is_some o ≡ false → o ≡ None
+is_none None e = refl
+is_none (Some x) e = cc
 
 -- a test's two cases, with the equation in hand
 pub by_test {ℓ} : (P : Bool → Type ℓ) (b : Bool) → (b ≡ true → P true) → (b ≡ false → P false) → P b
@@ -34,7 +33,7 @@ both_false : (a b : Bool) → (a || b) ≡ false → (a ≡ false) × (b ≡ fal
 both_false true b e = no_way refl e
 both_false false b e = (refl, e)
 
-pub is_less_true : (o : Order) → is_less o ≡ true → o ≡ Less
+pub is_less_true : (o : Ordering) → is_less o ≡ true → o ≡ Less
 is_less_true Less e = refl
 is_less_true Equal e = no_way e refl
 is_less_true Greater e = no_way e refl
@@ -54,10 +53,10 @@ equal_same a b e = same_of_eq a b (order_equal a b e)
 
 -- LOOKUP
 module _ {A : Type 0} where
-  pub lookup_insert_same : (k : Text) (v : A) (m : Map A) → lookup k (insert k v m) ≡ some v
+  pub lookup_insert_same : (k : Text) (v : A) (m : Map A) → lookup k (insert k v m) ≡ Some v
   unfolding lookup insert
   lookup_insert_same k v [] = rw (same_refl k)
-  lookup_insert_same k v ((j ⟼ w) ∷ m) = (elim (order_of k j) as (λ o. order_of k j ≡ o → lookup k (side o ((k ⟼ v) ∷ (j ⟼ w) ∷ m) ((k ⟼ v) ∷ m) ((j ⟼ w) ∷ insert k v m)) ≡ some v) [
+  lookup_insert_same k v ((j ⟼ w) ∷ m) = (elim (order_of k j) as (λ o. order_of k j ≡ o → lookup k (side o ((k ⟼ v) ∷ (j ⟼ w) ∷ m) ((k ⟼ v) ∷ m) ((j ⟼ w) ∷ insert k v m)) ≡ Some v) [
     | Less ↦ λ e. rw (same_refl k)
     | Equal ↦ λ e. rw (same_refl k)
     | Greater ↦ λ e. rw (greater_differs k j e) (lookup_insert_same k v m)
@@ -69,13 +68,13 @@ module _ {A : Type 0} where
   lookup_insert_other i k v ((j ⟼ w) ∷ m) h = (elim (order_of k j) as (λ o. order_of k j ≡ o → lookup i (side o ((k ⟼ v) ∷ (j ⟼ w) ∷ m) ((k ⟼ v) ∷ m) ((j ⟼ w) ∷ insert k v m)) ≡ lookup i ((j ⟼ w) ∷ m)) [
     | Less ↦ λ e. rw h
     | Equal ↦ λ e. let p : k ≡ j = order_equal k j e in rw (← p, h)
-    | Greater ↦ λ e. ap (λ (r : Option A). cond (same i j) (some w) r) (lookup_insert_other i k v m h)
+    | Greater ↦ λ e. ap (λ (r : Option A). cond (same i j) (Some w) r) (lookup_insert_other i k v m h)
   ]) refl
 
-  pub lookup_remove_same : (k : Text) (m : Map A) → lookup k (remove k m) ≡ none
+  pub lookup_remove_same : (k : Text) (m : Map A) → lookup k (remove k m) ≡ None
   unfolding lookup remove
   lookup_remove_same k [] = refl
-  lookup_remove_same k ((j ⟼ w) ∷ m) = by_test (λ b. lookup k (cond b (remove k m) ((j ⟼ w) ∷ remove k m)) ≡ none) (same k j)
+  lookup_remove_same k ((j ⟼ w) ∷ m) = by_test (λ b. lookup k (cond b (remove k m) ((j ⟼ w) ∷ remove k m)) ≡ None) (same k j)
       (λ e. lookup_remove_same k m)
       (λ e. rw e (lookup_remove_same k m))
 
@@ -84,15 +83,15 @@ module _ {A : Type 0} where
   lookup_remove_other i k [] h = refl
   lookup_remove_other i k ((j ⟼ w) ∷ m) h = by_test (λ b. lookup i (cond b (remove k m) ((j ⟼ w) ∷ remove k m)) ≡ lookup i ((j ⟼ w) ∷ m)) (same k j)
       (λ e. let p : k ≡ j = same_true k j e in rw (← p, h) (lookup_remove_other i k m h))
-      (λ e. ap (λ (r : Option A). cond (same i j) (some w) r) (lookup_remove_other i k m h))
+      (λ e. ap (λ (r : Option A). cond (same i j) (Some w) r) (lookup_remove_other i k m h))
 
   -- what is still found was there, under another key than the removed one
-  pub lookup-remove : (i k : Text) (v : A) (m : Map A) → lookup i (remove k m) ≡ some v → (same i k ≡ false) × (lookup i m ≡ some v)
-  lookup-remove i k v m h = by_test (λ b. same i k ≡ b → (same i k ≡ false) × (lookup i m ≡ some v)) (same i k)
+  pub lookup-remove : (i k : Text) (v : A) (m : Map A) → lookup i (remove k m) ≡ Some v → (same i k ≡ false) × (lookup i m ≡ Some v)
+  lookup-remove i k v m h = by_test (λ b. same i k ≡ b → (same i k ≡ false) × (lookup i m ≡ Some v)) (same i k)
       (λ e q. let p : i ≡ k = same_true i k e in option_clash (sym (lookup_remove_same k m) ∙ (rw p at h)))
       (λ e q. (q, sym (lookup_remove_other i k m q) ∙ h)) refl
 
-  pub lookup-remove_all : (ks : List Text) (i : Text) (v : A) (m : Map A) → lookup i (remove_all ks m) ≡ some v → (contains i ks ≡ false) × (lookup i m ≡ some v)
+  pub lookup-remove_all : (ks : List Text) (i : Text) (v : A) (m : Map A) → lookup i (remove_all ks m) ≡ Some v → (contains i ks ≡ false) × (lookup i m ≡ Some v)
   unfolding remove_all any
   lookup-remove_all [] i v m h = (refl, h)
   lookup-remove_all (k ∷ ks) i v m h =
@@ -100,20 +99,20 @@ module _ {A : Type 0} where
       let q = lookup-remove i k v m r.1 in
       (rw q.0 r.0, q.1)
 
-  pub any_value_false : (p : A → Bool) (m : Map A) (k : Text) (v : A) → any_value p m ≡ false → lookup k m ≡ some v → p v ≡ false
+  pub any_value_false : (p : A → Bool) (m : Map A) (k : Text) (v : A) → any_value p m ≡ false → lookup k m ≡ Some v → p v ≡ false
   unfolding lookup any_value
   any_value_false p [] k v e h = option_clash h
   any_value_false p ((j ⟼ w) ∷ m) k v e h =
       let neither = both_false (p w) (any_value p m) e in
-      by_test (λ b. cond b (some w) (lookup k m) ≡ some v → p v ≡ false) (same k j)
+      by_test (λ b. cond b (Some w) (lookup k m) ≡ Some v → p v ≡ false) (same k j)
       (λ _ z. let q : w ≡ v = cc in rw (← q) neither.0)
       (λ _ z. any_value_false p m k v neither.1 z) h
 
-  pub keys_where_has : (p : A → Bool) (m : Map A) (k : Text) (v : A) → lookup k m ≡ some v → p v ≡ true → contains k (keys_where p m) ≡ true
+  pub keys_where_has : (p : A → Bool) (m : Map A) (k : Text) (v : A) → lookup k m ≡ Some v → p v ≡ true → contains k (keys_where p m) ≡ true
   unfolding lookup select any
   keys_where_has p [] k v h t = option_clash h
   keys_where_has p ((j ⟼ w) ∷ m) k v h t =
-      by_test (λ b. cond b (some w) (lookup k m) ≡ some v → contains k (map key_of (cond (p w) ((j ⟼ w) ∷ entries_where p m) (entries_where p m))) ≡ true) (same k j)
+      by_test (λ b. cond b (Some w) (lookup k m) ≡ Some v → contains k (map key_of (cond (p w) ((j ⟼ w) ∷ entries_where p m) (entries_where p m))) ≡ true) (same k j)
       (λ e z. let q : w ≡ v = cc in rw (q, t, e))
       (λ e z. by_test (λ b. contains k (map key_of (cond b ((j ⟼ w) ∷ entries_where p m) (entries_where p m))) ≡ true) (p w)
       (λ _. rw e (keys_where_has p m k v z t))
@@ -134,12 +133,12 @@ module _ {A : Type 0} (P : Text → A → Type 0) where
   pub found-insert : (k : Text) (v : A) (m : Map A) → P k v → Found P m → Found P (insert k v m)
   found-insert k v m new old i w h = by_test (λ b. same i k ≡ b → P i w) (same i k)
       (λ _ q. let p : i ≡ k = same_true i k q in
-      let z : lookup k (insert k v m) ≡ some w = rw p at h in
+      let z : lookup k (insert k v m) ≡ Some w = rw p at h in
       let r : v ≡ w = some_inj (sym (lookup_insert_same k v m) ∙ z) in
       subst (λ (x : Text). P x w) (sym p) (subst (P k) r new))
       (λ _ q. old i w (sym (lookup_insert_other i k v m q) ∙ h)) refl
     where
-      some_inj : {x y : A} → some x ≡ some y → x ≡ y
+      some_inj : {x y : A} → Some x ≡ Some y → x ≡ y
       some_inj e = cc
 
   pub found-remove : (k : Text) (m : Map A) → Found P m → Found P (remove k m)
@@ -171,10 +170,10 @@ module _ {A : Type 0} (P : Text → A → Type 0) where
   each-remove_all [] m old = old
   each-remove_all (k ∷ ks) m old = each-remove_all ks (remove k m) (each-remove k m old)
 
-  pub each-lookup : (k : Text) (v : A) (m : Map A) → Each P m → lookup k m ≡ some v → P k v
+  pub each-lookup : (k : Text) (v : A) (m : Map A) → Each P m → lookup k m ≡ Some v → P k v
   unfolding lookup
   each-lookup k v [] old h = option_clash h
-  each-lookup k v ((j ⟼ w) ∷ m) old h = by_test (λ t. same k j ≡ t → cond t (some w) (lookup k m) ≡ some v → P k v) (same k j)
+  each-lookup k v ((j ⟼ w) ∷ m) old h = by_test (λ t. same k j ≡ t → cond t (Some w) (lookup k m) ≡ Some v → P k v) (same k j)
       (λ _ q e. let p : k ≡ j = same_true k j q in let r : w ≡ v = cc in rw (p, ← r) old.0)
       (λ _ _ e. each-lookup k v m old.1 e) refl h
 
@@ -204,16 +203,16 @@ module _ {A B : Type 0} (f : A → B) where
       (λ _. map-remove k m)
       (λ _. ap (λ (r : Map B). (j ⟼ f w) ∷ r) (map-remove k m))
 
-  pub lookup-map : (k : Text) (m : Map A) (v : A) → lookup k m ≡ some v → lookup k (map_values f m) ≡ some (f v)
+  pub lookup-map : (k : Text) (m : Map A) (v : A) → lookup k m ≡ Some v → lookup k (map_values f m) ≡ Some (f v)
   unfolding map_values lookup
   lookup-map k [] v h = option_clash h
-  lookup-map k ((j ⟼ w) ∷ m) v h = by_test (λ b. cond b (some w) (lookup k m) ≡ some v → cond b (some (f w)) (lookup k (map_values f m)) ≡ some (f v)) (same k j)
-      (λ _ z. let q : w ≡ v = cc in ap (λ (x : A). some (f x)) q)
+  lookup-map k ((j ⟼ w) ∷ m) v h = by_test (λ b. cond b (Some w) (lookup k m) ≡ Some v → cond b (Some (f w)) (lookup k (map_values f m)) ≡ Some (f v)) (same k j)
+      (λ _ z. let q : w ≡ v = cc in ap (λ (x : A). Some (f x)) q)
       (λ _ z. lookup-map k m v z) h
 
-  pub lookup_unmap : (k : Text) (m : Map A) (u : B) → lookup k (map_values f m) ≡ some u → (v : A) × (lookup k m ≡ some v) × (u ≡ f v)
+  pub lookup_unmap : (k : Text) (m : Map A) (u : B) → lookup k (map_values f m) ≡ Some u → (v : A) × (lookup k m ≡ Some v) × (u ≡ f v)
   unfolding map_values lookup
   lookup_unmap k [] u h = option_clash h
-  lookup_unmap k ((j ⟼ w) ∷ m) u h = by_test (λ b. cond b (some (f w)) (lookup k (map_values f m)) ≡ some u → (v : A) × (cond b (some w) (lookup k m) ≡ some v) × (u ≡ f v)) (same k j)
+  lookup_unmap k ((j ⟼ w) ∷ m) u h = by_test (λ b. cond b (Some (f w)) (lookup k (map_values f m)) ≡ Some u → (v : A) × (cond b (Some w) (lookup k m) ≡ Some v) × (u ≡ f v)) (same k j)
       (λ _ z. (w, refl, cc))
       (λ _ z. lookup_unmap k m u z) h

@@ -1,15 +1,14 @@
 -- Where a key stands in a map: what is ahead of it, at it and behind it. A change of the map is a splice there.
 -- Assumes nothing.
-use Rattle.std.specs.Prelude.{◌≡◌, Bool, false}
+use Rattle.std.specs.Prelude.{◌≡◌, Bool, false, Option, None, Some}
 use Rattle.std.proofs.Math.Path.{refl, ap}
 use Rattle.std.proofs.Common.{sym, ◌∙◌, subst}
 use Rattle.std.proofs.Math.Bool.{cond}
 use mathlib.Core.List.{List, [], ◌∷◌, ◌++◌, map}
-use Rattle.std.proofs.Math.Option.{Option, none, some}
 use Rattle.text.specs.Order.{order_of}
 use Rattle.text.proofs.OrderLaws.{flip, order_flip, order_equal}
 use Rattle.text.specs.SameLaws.{same_refl}
-use Rattle.text.specs.declared.Order.TheVariants.{Less, Equal, Greater}
+use Rattle.std.specs.declared.cmp.Ordering.TheVariants.{Less, Equal, Greater}
 use Rattle.state.specs.Maps.{Text, same, Every, select, side, Map, ◌⟼◌, key_of, lookup, insert, remove, remove_all, entries_where, keys_where}
 use Rattle.state.proofs.MapLaws.{by_test, less_differs, greater_differs, equal_same}
 use Rattle.state.specs.Sorted.{Below, Ascending}
@@ -63,10 +62,10 @@ module _ {A : Type 0} (k : Text) where
       ]) refl
 
   abbrev pub first_value : Map A → Option A
-  first_value [] = none
-  first_value ((j ⟼ w) ∷ m) = some w
+  first_value [] = None
+  first_value ((j ⟼ w) ∷ m) = Some w
 
-  lookup-below : (m : Map A) → Below k m → Ascending m → lookup k m ≡ none
+  lookup-below : (m : Map A) → Below k m → Ascending m → lookup k m ≡ None
   unfolding lookup
   lookup-below [] b a = refl
   lookup-below ((j ⟼ w) ∷ m) b a = rw (less_differs k j b) (lookup-below m (below_trans k j m b a.0) a.1)
@@ -75,7 +74,7 @@ module _ {A : Type 0} (k : Text) where
   unfolding at lookup
   lookup-is [] a = refl
   lookup-is ((j ⟼ w) ∷ m) a =
-      (elim (order_of k j) as (λ o. order_of k j ≡ o → cond (same k j) (some w) (lookup k m) ≡ first_value (side o [] ((j ⟼ w) ∷ []) (at m))) [
+      (elim (order_of k j) as (λ o. order_of k j ≡ o → cond (same k j) (Some w) (lookup k m) ≡ first_value (side o [] ((j ⟼ w) ∷ []) (at m))) [
         | Less ↦ λ e. rw (less_differs k j e) (lookup-below m (below_trans k j m e a.0) a.1)
         | Equal ↦ λ e. rw (equal_same k j e)
         | Greater ↦ λ e. rw (greater_differs k j e) (lookup-is m a.1)

@@ -1,8 +1,7 @@
 -- `==` is true exactly on equals: of each record, of texts and of options.
 -- Assumes nothing.
-use Rattle.std.specs.Prelude.{◌≡◌, refl, List, [], ◌∷◌, Bool, true, ◌&&◌}
+use Rattle.std.specs.Prelude.{◌≡◌, refl, List, [], ◌∷◌, Bool, true, ◌&&◌, Option, None, Some}
 use Rattle.std.proofs.Common.{ap, eqb-true, eq-eqb}
-use Rattle.std.proofs.Math.Option.{Option, none, some}
 use Rattle.text.specs.SameLaws.{same_refl, same_true}
 use Rattle.state.specs.Maps.{Text, same, same_texts, same_option}
 use Rattle.state.proofs.MapLaws.{no_way, by_test}
@@ -25,14 +24,14 @@ true_every (b ∷ bs) h = rw h.0 (true_every bs h.1)
 -- OPTIONS AND TEXTS
 module _ {A : Type 0} (eq : A → A → Bool) where
   pub option_sound : ((a b : A) → eq a b ≡ true → a ≡ b) → (a b : Option A) → same_option eq a b ≡ true → a ≡ b
-  option_sound f none none e = refl
-  option_sound f none (some y) e = no_way e refl
-  option_sound f (some x) none e = no_way e refl
-  option_sound f (some x) (some y) e = ap {B = Option A} some (f x y e)
+  option_sound f None None e = refl
+  option_sound f None (Some y) e = no_way e refl
+  option_sound f (Some x) None e = no_way e refl
+  option_sound f (Some x) (Some y) e = ap {B = Option A} Some (f x y e)
 
   pub option_refl : ((a : A) → eq a a ≡ true) → (a : Option A) → same_option eq a a ≡ true
-  option_refl f none = refl
-  option_refl f (some x) = f x
+  option_refl f None = refl
+  option_refl f (Some x) = f x
 
 pub texts_sound : (a b : List Text) → same_texts a b ≡ true → a ≡ b
 unfolding same_texts

@@ -6,7 +6,7 @@ use Rattle.std.proofs.Common.{sym, ◌∙◌, subst}
 use mathlib.Core.List.{List, [], ◌∷◌}
 use Rattle.text.specs.Order.{order_of}
 use Rattle.text.proofs.OrderLaws.{flip, order_flip, order_equal, order_trans}
-use Rattle.text.specs.declared.Order.TheVariants.{Less, Equal, Greater}
+use Rattle.std.specs.declared.cmp.Ordering.TheVariants.{Less, Equal, Greater}
 use Rattle.state.specs.Maps.{Text, same, Every, side, Map, ◌⟼◌, insert, remove, remove_all}
 use Rattle.state.proofs.MapLaws.{by_test}
 use Rattle.state.specs.Sort.{Pairs}

@@ -1,6 +1,5 @@
 -- The records of the Rust, with its names and its fields in their declared order, its `==` and its `is_valid` tests.
-use Rattle.std.specs.Prelude.{ℕ, List, [], ◌∷◌, Bool, true, false, not, ◌&&◌, eqb}
-use Rattle.std.proofs.Math.Option.{Option, none, some}
+use Rattle.std.specs.Prelude.{ℕ, List, [], ◌∷◌, Bool, true, false, not, ◌&&◌, eqb, Option, None, Some}
 use Rattle.text.specs.Same.{sha256_of}
 use Rattle.state.specs.Maps.{Text, Map, same, same_texts, same_option, is_empty, contains, starts_with, all}
 
@@ -139,7 +138,7 @@ default = record {
   pins = [];
   deletion_reservations = [];
   observed_commit_frontier = 0;
-  retention_window = none;
+  retention_window = None;
   retention_policy_epoch = 0;
   policy_floor = 0;
   minimum_readable_version = 0;
@@ -148,7 +147,7 @@ default = record {
   lease_epoch = 0;
   leases = [];
   range_map_epoch = 0;
-  collection_root = none;
+  collection_root = None;
   collection_jobs = [];
 }
 
@@ -217,8 +216,8 @@ valid_reference r = named r.key && sha256_of r.sha256
 
 -- is_none_or(ObjectReference::is_valid)
 abbrev pub valid_prior : Option ObjectReference → Bool
-valid_prior none = true
-valid_prior (some r) = valid_reference r
+valid_prior None = true
+valid_prior (Some r) = valid_reference r
 
 unfoldable pub valid_intent : PublicationIntent → Bool
 valid_intent i = every (

@@ -1,7 +1,6 @@
 -- One setter to a field. antt has no record update: a setter writes the state anew, its fields in the declared order,
 -- with `x` in the place of the old value.
-use Rattle.std.specs.Prelude.{ℕ, ◌≡◌, refl}
-use Rattle.std.proofs.Math.Option.{Option}
+use Rattle.std.specs.Prelude.{ℕ, ◌≡◌, refl, Option}
 use Rattle.state.specs.Maps.{Text, Map}
 use Rattle.state.specs.Records.{AuthorityPosition, ObjectReference, PreparedPublication, SnapshotLeaseToken, CollectionJobToken, DeletePermit, State}
 

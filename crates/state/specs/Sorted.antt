@@ -1,9 +1,8 @@
 -- Properties of maps: of what is found, of each entry, and strictly ascending keys.
-use Rattle.std.specs.Prelude.{◌≡◌}
+use Rattle.std.specs.Prelude.{◌≡◌, Option, None, Some}
 use mathlib.Core.List.{List, [], ◌∷◌}
-use Rattle.std.proofs.Math.Option.{Option, none, some}
 use Rattle.text.specs.Order.{order_of}
-use Rattle.text.specs.declared.Order.TheVariants.{Less}
+use Rattle.std.specs.declared.cmp.Ordering.TheVariants.{Less}
 use Rattle.state.specs.Maps.{Text, Entry, Map, ◌⟼◌, key_of, lookup}
 
 abbrev pub Below : {A : Type 0} → Text → Map A → Type 0
@@ -17,8 +16,8 @@ Ascending ((k ⟼ v) ∷ m) = Below k m × Ascending m
 -- texts, each above the one before
 abbrev pub Rising : Option Text → List Text → Type 0
 Rising j [] = Unit {0}
-Rising none (k ∷ ks) = Rising (some k) ks
-Rising (some j) (k ∷ ks) = (order_of j k ≡ Less) × Rising (some k) ks
+Rising None (k ∷ ks) = Rising (Some k) ks
+Rising (Some j) (k ∷ ks) = (order_of j k ≡ Less) × Rising (Some k) ks
 
 -- ANY TWO ENTRIES stand in the order of their keys
 abbrev pub InOrder : {A : Type 0} → Entry A → Entry A → Type 0
@@ -26,7 +25,7 @@ InOrder x y = order_of (key_of x) (key_of y) ≡ Less
 
 -- A PROPERTY OF WHAT IS FOUND
 abbrev pub Found : {A : Type 0} → (Text → A → Type 0) → Map A → Type 0
-Found {A} P m = (k : Text) (v : A) → lookup k m ≡ some v → P k v
+Found {A} P m = (k : Text) (v : A) → lookup k m ≡ Some v → P k v
 
 -- A PROPERTY OF EACH ENTRY
 abbrev pub Each : {A : Type 0} → (Text → A → Type 0) → Map A → Type 0

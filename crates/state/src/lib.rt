@@ -1,2 +1,2 @@
-// Definitions only: maps over texts, the Rust's records and the state.
+// No code: maps over texts, the Rust's records and the state, and their laws.
 #![tactic(auto)]

@@ -2,10 +2,12 @@
 use Rattle.std.specs.Prelude.{ℕ, zero, suc, ◌-◌, List, [], ◌∷◌, length, take}
 use Rattle.text.specs.Order.{order_of}
 use Rattle.state.specs.Maps.{Text, side}
-use Rattle.fields.specs.Codes.{Code, skip}
+use Rattle.fields.specs.declared.Code.{Code}
+use Rattle.fields.specs.Codes.{skip}
 use Rattle.fields.specs.Walks.{place_of}
 use Rattle.fields.specs.Rows.{text_here}
 use Rattle.tables.specs.declared.Place.{Place}
+use Rattle.tables.specs.declared.TableRows.{TableRows}
 
 -- what is left from the row on, and after it; the same where there is no such row
 pub record Seen : Type 0 where
@@ -30,3 +32,7 @@ row_of x = take (length x.from - length x.to) x.from
 unfoldable pub rows_at : List Code → ℕ → List ℕ → List (List ℕ)
 rows_at cs zero s = []
 rows_at cs (suc n) s = s ∷ rows_at cs n (skip 0 cs s)
+
+-- those that an iterator over rows has yet to give
+abbrev pub rows_left : TableRows → List (List ℕ)
+rows_left r = rows_at r.codes.now r.left r.rest.now

@@ -5,12 +5,13 @@ use mathlib.Core.List.{List, [], ◌∷◌, ◌++◌, append_assoc, append-nil}
 use Rattle.std.specs.Prelude.{◌≡◌, length, take, drop}
 use Rattle.std.proofs.Math.Path.{refl, ap}
 use Rattle.text.specs.Order.{order_of}
-use Rattle.text.specs.declared.Order.TheVariants.{Less, Equal, Greater}
+use Rattle.std.specs.declared.cmp.Ordering.TheVariants.{Less, Equal, Greater}
 use Rattle.state.specs.Maps.{Text, Map, Entry, ◌⟼◌, key_of, side, Every}
 use Rattle.state.proofs.Places.{at, behind}
 use Rattle.fields.specs.Format.{Field, text, ◌▹◌, El, enc, all, Within}
 use Rattle.fields.proofs.FormatLaws.{dec-enc}
-use Rattle.fields.specs.Codes.{Code, codes, skip}
+use Rattle.fields.specs.declared.Code.{Code}
+use Rattle.fields.specs.Codes.{codes, skip}
 use Rattle.fields.proofs.CodeLaws.{skip-dec}
 use Rattle.fields.specs.Walks.{place_of, Rest}
 use Rattle.fields.proofs.WalkLaws.{rest_all, rest_trans, rest-place}

@@ -1,6 +1,8 @@
 -- The skip walk over a slice from a position: it always ends at a place of the slice.
 use Rattle.std.specs.Prelude.{ℕ, zero, suc, List, [], ◌∷◌, ◌≡◌, refl, drop}
-use Rattle.fields.specs.Codes.{Code, a_number, a_kind, a_text, a_set, maybe, past, passed, skip}
+use Rattle.fields.specs.declared.Code.{Code}
+use Rattle.fields.specs.declared.Code.TheVariants.{Number, Kind, Text, Keys, Maybe}
+use Rattle.fields.specs.Codes.{past, passed, skip}
 use Rattle.fields.specs.Walks.{place_of, Rest}
 use Rattle.fields.proofs.WalkLaws.{rest_all, rest-drop, rest_trans, rest-place, hop-rest, hop_set-rest}
 
@@ -20,11 +22,11 @@ skip-cons (suc k) c cs s = refl
 
 pub past-rest : (c : Code) (s : List ℕ) → Rest s (past c s)
 unfolding past
-past-rest (a_number n) s = rest-drop n s
-past-rest a_kind s = rest-drop 1 s
-past-rest (a_text n) s = hop-rest s
-past-rest (a_set m n) s = hop_set-rest s
-past-rest (maybe n) s = rest-drop 1 s
+past-rest (Number n) s = rest-drop n s
+past-rest Kind s = rest-drop 1 s
+past-rest (Text n) s = hop-rest s
+past-rest (Keys m n) s = hop_set-rest s
+past-rest (Maybe n) s = rest-drop 1 s
 
 pub past_over-rest : (k : ℕ) (c : Code) (s : List ℕ) → Rest s (past_over k c s)
 unfolding past_over

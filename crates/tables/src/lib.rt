@@ -1,170 +1,130 @@
-// Records and tables of bytes that were checked before: hops by length bytes, lookup by id.
+// Records and tables of bytes that were checked before: hops by length bytes, lookup by id, rows one by one.
 #![tactic(auto)]
 
-ghost use Rattle.std.specs.Prelude.{◌≡◌, ◌+◌, ◌-◌, ◌≤◌, ◌<◌, length, take, drop};
-ghost use Rattle.fields.specs.Codes.{hop, hops, hop_set, absent_codes, past, passed, skip, code_of, codes_of};
+ghost use Rattle.std.specs.Prelude.{◌≡◌, ◌-◌, ◌≤◌, length, take, drop};
+ghost use Rattle.std.specs.Iterator.{YieldsFirstRef, item_count};
+ghost use Rattle.fields.specs.Codes.{hops, hop_set, past, passed, skip};
 ghost use Rattle.fields.specs.Walks.{place_of};
+ghost use Rattle.fields.specs.Rows.{text_here};
 ghost use Rattle.parts.specs.Digits.{value};
 ghost use Rattle.parts.specs.Gather.{run};
 ghost use Rattle.tables.specs.Skips.{left_over, past_over};
-ghost use Rattle.tables.specs.Seek.{seek, placed, row_of};
+ghost use Rattle.tables.specs.Seek.{seek, placed, row_of, rows_at, rows_left};
 
-use text::Order;
-
-// The place after one code, and how many codes after it are passed over.
-#[derive(Clone, Copy)]
-struct Hop {
-    at: usize,
-    over: usize,
-}
+use fields::{Code, Hop};
+use std::cmp::Ordering;
 
 // Where a row starts and ends; start and end are the same where there is none.
-#[derive(Clone, Copy)]
+#[derive(Clone, Copy, Debug, PartialEq, Eq)]
 pub struct Place {
     pub start: usize,
     pub end: usize,
 }
 
+// The rows of a table from one on, each as the bytes from its start to the end of all.
+#[derive(Clone, Copy)]
+pub struct TableRows<'a> {
+    pub codes: &'a [Code],
+    pub rest: &'a [u8],
+    pub left: usize,
+}
+
 // n bytes further, and no further than the end.
-fn further(s: &[u8], at: usize, n: usize) -> usize
+#[tactic(auto, using(crate::proofs::Steps::hop_steps))]
+fn further(s: &[u8], at: usize, n: u8) -> usize
     requires { at ≤ length s.now }
     ensures { result ≡ place_of s.now (drop n (drop at s.now)) }
 {
-    if s.len() - at < n {
-        return s.len();
-    }
-    at + n
+    (at + n as usize).min(s.len())
 }
 
-fn hop_text(s: &[u8], at: usize) -> usize
-    requires { at ≤ length s.now }
-    ensures { result ≡ place_of s.now (hop (drop at s.now)) }
-{
-    if s.len() <= at {
-        return at;
-    }
-    further(s, at + 1, s[at] as usize)
-}
-
-fn hop_texts(s: &[u8], at: usize, n: usize) -> usize
+#[tactic(auto, using(crate::proofs::Steps::hop_steps))]
+fn hop_texts(s: &[u8], at: usize, n: u8) -> usize
     requires { at ≤ length s.now }
     ensures { result ≡ place_of s.now (hops n (drop at s.now)) }
 {
-    let mut i = 0;
     let mut p = at;
-    while i < n {
-        p = hop_text(s, p);
-        i += 1;
+    for _ in 0..n {
+        p = fields::after_text(s, p);
     }
     p
 }
 
+#[tactic(auto, using(crate::proofs::Steps::hop_steps))]
 fn hop_keys(s: &[u8], at: usize) -> usize
-    requires { at ≤ length s.now }
     ensures { result ≡ place_of s.now (hop_set (drop at s.now)) }
 {
-    if s.len() <= at {
-        return at;
-    }
-    hop_texts(s, at + 1, s[at] as usize)
-}
-
-// The byte of an option: where it is 0, so many codes are passed over.
-fn hop_flag(codes: usize, s: &[u8], at: usize) -> Hop
-    requires { at ≤ length s.now }
-    ensures { result ≡ record { at = place_of s.now (drop 1 (drop at s.now)); over = absent_codes codes (drop at s.now) } }
-{
-    if s.len() <= at {
-        return Hop { at, over: 0 };
-    }
-    if s[at] == 0 {
-        return Hop {
-            at: at + 1,
-            over: codes,
-        };
-    }
-    Hop {
-        at: at + 1,
-        over: 0,
+    match s.get(at) {
+        Some(n) => hop_texts(s, at + 1, *n),
+        None => s.len(),
     }
 }
 
-fn hop_code(code: u8, s: &[u8], at: usize) -> Hop
+// Past one code. Where the byte of an option is 0, the codes of its value are passed over.
+#[tactic(auto, using(crate::proofs::Steps::hop_steps), unfolding(fields::specs::Codes::past, fields::specs::Codes::passed))]
+fn hop_code(code: Code, s: &[u8], at: usize) -> Hop
     requires { at ≤ length s.now }
-    ensures { result ≡ record { at = place_of s.now (past (code_of code) (drop at s.now)); over = passed (code_of code) (drop at s.now) } }
+    ensures { result ≡ record { at = place_of s.now (past code (drop at s.now)); over = passed code (drop at s.now) } }
 {
     match code {
-        fields::KIND => Hop {
+        Code::Number(n) => Hop::to(further(s, at, n)),
+        Code::Kind => Hop::to(further(s, at, 1)),
+        Code::Text(_) => Hop::to(fields::after_text(s, at)),
+        Code::Keys(_, _) => Hop::to(hop_keys(s, at)),
+        Code::Maybe(codes) => Hop {
             at: further(s, at, 1),
-            over: 0,
-        },
-        fields::KEYS => Hop {
-            at: hop_keys(s, at),
-            over: 0,
-        },
-        0..=fields::U64 => Hop {
-            at: further(s, at, code as usize),
-            over: 0,
-        },
-        fields::MAYBE..=fields::LAST_MAYBE => hop_flag((code - fields::MAYBE) as usize, s, at),
-        _ => Hop {
-            at: hop_text(s, at),
-            over: 0,
+            over: match s.get(at) {
+                Some(0) => codes as usize,
+                _ => 0,
+            },
         },
     }
 }
 
 // The same where so many codes are yet to be passed over.
-fn hop_or_pass(over: usize, code: u8, s: &[u8], at: usize) -> Hop
-    requires { at ≤ length s.now }
-    ensures { result ≡ record { at = place_of s.now (past_over over (code_of code) (drop at s.now)); over = left_over over (code_of code) (drop at s.now) } }
+#[tactic(auto, using(crate::proofs::Steps::on_steps))]
+fn hop_on(from: Hop, code: Code, s: &[u8]) -> Hop
+    requires { from.at ≤ length s.now }
+    ensures { result ≡ record { at = place_of s.now (past_over from.over code (drop from.at s.now)); over = left_over from.over code (drop from.at s.now) } }
 {
-    if over == 0 {
-        return hop_code(code, s, at);
+    if from.over == 0 {
+        return hop_code(code, s, from.at);
     }
-    Hop { at, over: over - 1 }
+    Hop {
+        at: from.at,
+        over: from.over - 1,
+    }
 }
 
 // Where the record of these codes ends that starts at a place.
-pub fn skip_record(codes: &[u8], s: &[u8], at: usize) -> usize
-    ensures { result ≡ place_of s.now (skip 0 (codes_of codes.now) (drop at s.now)) }
+#[tactic(auto, using(crate::proofs::Steps::skip_steps))]
+pub fn skip_record(codes: &[Code], s: &[u8], at: usize) -> usize
+    ensures { result ≡ place_of s.now (skip 0 codes.now (drop at s.now)) }
 {
-    let mut i = 0;
-    let mut p = fields::within(s, at);
-    let mut over = 0;
-    while i < codes.len() {
-        let h = hop_or_pass(over, codes[i], s, p);
-        p = h.at;
-        over = h.over;
-        i += 1;
+    let mut here = Hop::to(fields::within(s, at));
+    for code in codes {
+        here = hop_on(here, *code, s);
     }
-    p
+    here.at
 }
 
 // Where the row with an id stands, or would stand, among n rows of these codes that start at a place.
-pub fn locate(codes: &[u8], s: &[u8], at: usize, n: usize, id: &[u8]) -> Place
-    ensures { result ≡ placed s.now (seek (codes_of codes.now) n id.now (drop at s.now)) }
+#[tactic(auto, using(crate::proofs::Steps::seek_steps))]
+pub fn locate(codes: &[Code], s: &[u8], at: usize, n: usize, id: &[u8]) -> Place
+    ensures { result ≡ placed s.now (seek codes.now n id.now (drop at s.now)) }
 {
-    let mut i = 0;
     let mut p = fields::within(s, at);
-    while i < n {
-        let c = text::compare(id, fields::text_at(s, p));
-        let o = c.order;
-        match o {
-            Order::Less => {
-                return Place { start: p, end: p };
-            }
-            Order::Equal => {
+    for _ in 0..n {
+        match text::compare(id, fields::text_at(s, p)).order {
+            Ordering::Less => return Place { start: p, end: p },
+            Ordering::Equal => {
                 return Place {
                     start: p,
                     end: skip_record(codes, s, p),
                 };
             }
-            Order::Greater => {
-                p = skip_record(codes, s, p);
-            }
+            Ordering::Greater => p = skip_record(codes, s, p),
         }
-        i += 1;
     }
     Place { start: p, end: p }
 }
@@ -173,19 +133,59 @@ pub fn locate(codes: &[u8], s: &[u8], at: usize, n: usize, id: &[u8]) -> Place
 pub fn row<'a>(s: &'a [u8], p: Place) -> &'a [u8]
     ensures { result.now ≡ run s.now p.start (p.end - p.start) }
 {
-    parts::clip(s, p.start, parts::less(p.end, p.start))
+    parts::clip(s, p.start, p.end.saturating_sub(p.start))
 }
 
 // The row with an id, as a part of s; empty where there is none.
-pub fn find<'a>(codes: &[u8], s: &'a [u8], at: usize, n: usize, id: &[u8]) -> &'a [u8]
-    ensures { result.now ≡ row_of (seek (codes_of codes.now) n id.now (drop at s.now)) }
+#[tactic(auto, using(crate::proofs::Steps::find_part))]
+pub fn find<'a>(codes: &[Code], s: &'a [u8], at: usize, n: usize, id: &[u8]) -> &'a [u8]
+    ensures { result.now ≡ row_of (seek codes.now n id.now (drop at s.now)) }
 {
     row(s, locate(codes, s, at, n, id))
 }
 
 // The number that stands in the record at a place behind some of its fields.
-pub fn number_after(before: &[u8], s: &[u8], at: usize) -> u64
-    ensures { result ≡ value (take 8 (skip 0 (codes_of before.now) (drop at s.now))) }
+#[tactic(auto, using(crate::specs::Skips::after_record))]
+pub fn number_after(before: &[Code], s: &[u8], at: usize) -> u64
+    ensures { result ≡ value (take 8 (skip 0 before.now (drop at s.now))) }
 {
     parts::u64_at(s, skip_record(before, s, at))
+}
+
+// The text that stands in the record at a place behind some of its fields.
+#[tactic(auto, using(crate::specs::Skips::after_record))]
+pub fn text_after<'a>(before: &[Code], s: &'a [u8], at: usize) -> &'a [u8]
+    ensures { result.now ≡ text_here (skip 0 before.now (drop at s.now)) }
+{
+    fields::text_at(s, skip_record(before, s, at))
+}
+
+// n rows of these codes that start at a place.
+pub fn rows<'a>(codes: &'a [Code], s: &'a [u8], at: usize, n: usize) -> TableRows<'a>
+    ensures { rows_left result ≡ rows_at codes.now n (drop at s.now) }
+{
+    TableRows {
+        codes,
+        rest: &s[fields::within(s, at)..],
+        left: n,
+    }
+}
+
+impl<'a> Iterator for TableRows<'a> {
+    type Item = &'a [u8];
+
+    ghost next_gives = { YieldsFirstRef rows_left };
+
+    ghost remaining = { item_count rows_left };
+
+    #[tactic(auto, using(crate::proofs::Steps::row_steps))]
+    fn next(&mut self) -> Option<&'a [u8]> {
+        if self.left == 0 {
+            return None;
+        }
+        let row = self.rest;
+        self.left -= 1;
+        self.rest = &row[skip_record(self.codes, row, 0)..];
+        Some(row)
+    }
 }

@@ -1,11 +1,12 @@
 -- Bytes as a number, the first the highest: numbers of as many bytes stand as the bytes do.
 -- Assumes nothing.
-use Rattle.std.specs.Prelude.{ℕ, suc, ◌+◌, ◌*◌, ◌<◌, ◌≡◌, refl, cond, List, [], ◌∷◌, ◌++◌, ltb, length}
-use Rattle.std.proofs.Common.{arith, ap, ◌∙◌, lt-ltb, le-ltb}
+use Rattle.std.specs.Int.{w64, from_be_bytes}
+use Rattle.std.specs.Prelude.{ℕ, suc, ◌+◌, ◌*◌, ◌<◌, ◌≤◌, ◌≡◌, refl, cond, List, [], ◌∷◌, ◌++◌, ltb, length, get_or, drop}
+use Rattle.std.proofs.Common.{arith, sym, ap, ◌∙◌, lt-ltb, le-ltb, drop-cons, drop_of_length-le}
 use Rattle.parts.specs.Digits.{Bytes}
 use Rattle.text.specs.Order.{order_of}
 use Rattle.text.proofs.OrderLaws.{head-less, head-same, head_more, Heads, heads, less, same, more}
-use Rattle.text.specs.declared.Order.TheVariants.{Less, Greater}
+use Rattle.std.specs.declared.cmp.Ordering.TheVariants.{Less, Greater}
 use Rattle.text.specs.Words.{big_from, big_of}
 
 -- what is ahead stays ahead
@@ -44,3 +45,17 @@ order_from m (x ∷ u) (y ∷ v) s t e p q d =
 pub order_words : (u v s t : List ℕ) → length u ≡ length v → Bytes u → Bytes v → (u ≡ v → ⊥) → order_of (u ++ s) (v ++ t) ≡ cond (ltb (big_of u) (big_of v)) Less Greater
 unfolding big_of
 order_words u v s t e p q d = order_from 0 u v s t e p q d
+
+-- eight bytes as std reads them, the first the highest
+module _ (s : List ℕ) where
+  big_step : (m i : ℕ) → i < length s → big_from m (drop i s) ≡ big_from (256 * m + get_or s i 0) (drop (suc i) s)
+  unfolding big_from
+  big_step m i h = rw (drop-cons s i 0 h)
+
+  pub big_is : length s ≡ 8 → from_be_bytes w64 s ≡ big_of s
+  unfolding big_of big_from
+  big_is e =
+      let f : length s ≤ 8 = omega arith in
+      let n : drop 8 s ≡ [] = drop_of_length-le s f in
+      sym (big_step 0 0 (omega arith) ∙ big_step _ 1 (omega arith) ∙ big_step _ 2 (omega arith) ∙ big_step _ 3 (omega arith) ∙ big_step _ 4 (omega arith) ∙ big_step _ 5 (omega arith)
+      ∙ big_step _ 6 (omega arith) ∙ big_step _ 7 (omega arith) ∙ ap (big_from _) n ∙ omega arith)

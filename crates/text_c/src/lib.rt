@@ -8,6 +8,8 @@ ghost use Rattle.text.specs.Utf8.{utf8};
 ghost use Rattle.text.specs.Order.{order_of, steps_of};
 ghost use Rattle.text_c.specs.Sign.{sign_of};
 
+use std::cmp::Ordering;
+
 #[unsafe(no_mangle)]
 pub extern "C" fn text_is_utf8(s: &[u8]) -> bool
     ensures { result ≡ utf8 s.now }
@@ -51,10 +53,9 @@ pub extern "C" fn text_compare(a: &[u8], b: &[u8], steps: &mut usize) -> u8
 {
     let c = text::compare(a, b);
     *steps = c.steps;
-    let o = c.order;
-    match o {
-        text::Order::Less => 0,
-        text::Order::Equal => 1,
-        text::Order::Greater => 2,
+    match c.order {
+        Ordering::Less => 0,
+        Ordering::Equal => 1,
+        Ordering::Greater => 2,
     }
 }

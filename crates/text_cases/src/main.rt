@@ -13,9 +13,10 @@
 // Any other line is written as it is.
 #![tactic(auto)]
 
-ghost use Rattle.std.specs.Prelude.{◌≤◌, ◌*◌, length};
+ghost use Rattle.std.specs.Prelude.{◌≤◌};
 
-use text::{Compared, Order};
+use std::cmp::Ordering;
+use text::Compared;
 
 // The numbers of the standard input and output.
 const STDIN: i32 = 0;
@@ -39,37 +40,21 @@ fn write_number(n: usize) {
 }
 
 fn write_order(c: Compared) {
-    let o = c.order;
-    match o {
-        Order::Less => write(b" less "),
-        Order::Equal => write(b" equal "),
-        Order::Greater => write(b" greater "),
+    match c.order {
+        Ordering::Less => write(b" less "),
+        Ordering::Equal => write(b" equal "),
+        Ordering::Greater => write(b" greater "),
     }
     write_number(c.steps);
 }
 
 fn write_sign(c: Compared) {
-    let o = c.order;
-    match o {
-        Order::Less => write(b"<"),
-        Order::Equal => write(b"="),
-        Order::Greater => write(b">"),
+    match c.order {
+        Ordering::Less => write(b"<"),
+        Ordering::Equal => write(b"="),
+        Ordering::Greater => write(b">"),
     }
     write_number(c.steps);
-}
-
-// Where b first stands in s, or the length of s.
-fn find(s: &[u8], b: u8) -> usize
-    ensures { result ≤ length s.now }
-{
-    let mut i = 0;
-    while i < s.len() {
-        if s[i] == b {
-            return i;
-        }
-        i += 1;
-    }
-    i
 }
 
 // The value of a hex digit, and 0 of any other byte.
@@ -88,42 +73,28 @@ fn byte(high: u8, low: u8) -> u8 {
     digit(high) * 16 + digit(low)
 }
 
-// How many bytes n hex digits write, up to 8.
-fn pairs(n: usize) -> usize
-    ensures { (result ≤ 8) × (2 * result ≤ n) }
-{
-    if 16 <= n { 8 } else { n / 2 }
-}
-
 // is_utf8 of first and up to 8 bytes that hex writes.
 fn after(first: u8, hex: &[u8]) -> bool {
-    let mut text = [0u8; 9];
-    text[0] = first;
-    let n = pairs(hex.len());
-    let mut i = 0;
-    while i < n {
-        text[i + 1] = byte(hex[2 * i], hex[2 * i + 1]);
-        i += 1;
+    let (pairs, _) = hex.as_chunks::<2>();
+    let mut text = [first; 9];
+    for (place, [high, low]) in text[1..].iter_mut().zip(pairs) {
+        *place = byte(*high, *low);
     }
-    let end = n + 1;
-    text::is_utf8(&text[0..end])
+    text::is_utf8(&text[..=pairs.len().min(8)])
 }
 
 fn from_hex(hex: &[u8]) -> bool {
-    if hex.len() < 2 {
-        return text::is_utf8(b"");
+    match hex {
+        [high, low, rest @ ..] => after(byte(*high, *low), rest),
+        _ => text::is_utf8(b""),
     }
-    after(byte(hex[0], hex[1]), &hex[2..])
 }
 
 fn each_lead(hex: &[u8]) {
     write(b" ");
-    let mut x: u8 = 0;
-    while x < 255 {
+    for x in 0..=255 {
         write_digit(after(x, hex));
-        x += 1;
     }
-    write_digit(after(255, hex));
 }
 
 fn write_digit(yes: bool) {
@@ -150,7 +121,7 @@ const LARGER: [u8; 24] = [
 fn compare_heads(a: [u8; 24], n: usize, b: [u8; 24], m: usize)
     requires { (n ≤ 24) × (m ≤ 24) }
 {
-    write_sign(text::compare(&a[0..n], &b[0..m]));
+    write_sign(text::compare(&a[..n], &b[..m]));
 }
 
 // Before the place of the first difference both texts are the same, and after it each byte says the contrary.
@@ -160,14 +131,12 @@ fn each_place(n: usize, m: usize)
     write(b" ");
     let mut a = LARGER;
     let mut b = SMALLER;
-    let mut d = 0;
-    while d < n && d < m {
+    for d in 0..n.min(m) {
         a[d] = SMALLER[d];
         b[d] = LARGER[d];
         compare_heads(a, n, b, m);
         compare_heads(b, n, a, m);
         b[d] = SMALLER[d];
-        d += 1;
     }
     compare_heads(b, n, b, m);
 }
@@ -176,33 +145,25 @@ fn each_place(n: usize, m: usize)
 fn up_to_24(tens: u8, ones: u8) -> usize
     ensures { result ≤ 24 }
 {
-    let n = digit(tens) * 10 + digit(ones);
-    if 24 < n { 24 } else { n as usize }
+    usize::from(digit(tens) * 10 + digit(ones)).min(24)
 }
 
 fn two_lengths(s: &[u8]) {
-    if s.len() < 5 {
-        return;
+    if let [a, b, _, c, d, ..] = s {
+        each_place(up_to_24(*a, *b), up_to_24(*c, *d));
     }
-    each_place(up_to_24(s[0], s[1]), up_to_24(s[3], s[4]));
 }
 
 fn ends_with(s: &[u8], b: &[u8]) -> bool {
-    if b.len() == 0 {
-        return false;
-    }
-    text::ends_with_byte(s, b[0])
+    b.first().is_some_and(|x| text::ends_with_byte(s, *x))
 }
 
 // The answer to a case of two texts with a space between.
 fn two_texts(case: u8, s: &[u8]) {
-    let at = find(s, b' ');
-    if at == s.len() {
+    let Some(at) = s.iter().position(|x| *x == b' ') else {
         return;
-    }
-    let next = at + 1;
-    let a = &s[0..at];
-    let b = &s[next..];
+    };
+    let (a, b) = (&s[..at], &s[at + 1..]);
     match case {
         b'c' => write_order(text::compare(a, b)),
         b's' => write_bool(text::same(a, b)),
@@ -213,29 +174,24 @@ fn two_texts(case: u8, s: &[u8]) {
 }
 
 fn answer(line: &[u8]) {
-    if line.len() < 2 {
+    let [case, _, rest @ ..] = line else {
         return;
-    }
-    let rest = &line[2..];
-    let case = line[0];
-    match case {
+    };
+    match *case {
         b'u' => write_bool(from_hex(rest)),
         b'l' => each_lead(rest),
         b'h' => write_bool(text::valid_sha256(rest)),
         b'w' => two_lengths(rest),
-        _ => two_texts(case, rest),
+        _ => two_texts(*case, rest),
     }
 }
 
 fn each_line(s: &[u8]) {
-    let mut i = 0;
-    while i < s.len() {
-        let end = i + find(&s[i..], b'\n');
-        let line = &s[i..end];
+    for line in s.split_inclusive(|x| *x == b'\n') {
+        let line = line.strip_suffix(b"\n").unwrap_or(line);
         write(line);
         answer(line);
         write(b"\n");
-        i = end + 1;
     }
 }
 

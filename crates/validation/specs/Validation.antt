@@ -1,12 +1,10 @@
 -- Validation of a token that was read against an image that was opened.
-use Rattle.std.specs.Prelude.{ℕ, ◌≤◌, ◌<◌, Bool, true, false, ◌≡◌, refl, leb, drop, get_or}
-use Rattle.std.proofs.Common.{arith, ◌∙◌, eq-eqb, ne_eqb, le-leb}
+use Rattle.std.specs.Prelude.{ℕ, ◌≤◌, Bool, ◌≡◌, eqb, leb, drop, get_or, None, Some}
+use Rattle.std.proofs.Common.{arith, ◌∙◌, ne_eqb}
 use Rattle.std.proofs.Math.Bool.{cond}
 use mathlib.Core.List.{List, [], ◌∷◌, append-nil}
-use Rattle.std.proofs.Math.Option.{none, some}
 use Rattle.std.proofs.Math.Path.{sym, ap}
 use Rattle.std.proofs.Math.ListN.{length}
-use Rattle.std.proofs.lemmas.Bool.{lt-leb}
 use Rattle.text.specs.Same.{same_of}
 use Rattle.parts.specs.Digits.{Bytes}
 use Rattle.state.specs.Maps.{◌⟼◌, lookup}
@@ -15,8 +13,7 @@ use Rattle.state.specs.Sorted.{Ascending}
 use Rattle.next.specs.Edit.{Standing, absent, present, standing}
 use Rattle.state.specs.Records.{State, SnapshotLeaseToken}
 use Rattle.fields.specs.Format.{all, enc, enc_text, Within}
-use Rattle.fields.specs.Codes.{codes, codes_of, shape}
-use Rattle.fields.proofs.CodeLaws.{shape-codes}
+use Rattle.fields.specs.Codes.{codes}
 use Rattle.tables.specs.Seek.{seek, row_of}
 use Rattle.image.specs.Contents.{answer, refusal}
 use Rattle.image.specs.Layout.{leases, decode_image}
@@ -47,17 +44,28 @@ ready-token x q c t o bq d =
     let (w, v) = token-written q (lease_token_of q t) bq (sym d) in
     record { opened = o; asked = sym d; token_is = w; within = v }
 
-pub not_an_image : (x q : List ℕ) → decode_image x ≡ none → 40 ≡ validate_bytes x q
+pub not_an_image : (x q : List ℕ) → decode_image x ≡ None → 40 ≡ validate_bytes x q
 unfolding validate_bytes
 not_an_image x q e = rw e
 
-pub not_a_token : (x q : List ℕ) (s : State) (n : ℕ) → decode_image x ≡ some s → decode_token q ≡ refusal n → n ≡ validate_bytes x q
+pub not_a_token : (x q : List ℕ) (s : State) (n : ℕ) → decode_image x ≡ Some s → decode_token q ≡ refusal n → n ≡ validate_bytes x q
 unfolding validate_bytes
 not_a_token x q s n e d = rw (e, d)
 
 lease-long : (v : SnapshotLeaseToken) → 1 ≤ length (enc lease (lease_parts v))
 unfolding enc enc_text
 lease-long v = omega arith
+
+-- THE TESTS, on the contents of the image and the row that stands under the token's id
+module _ (x : List ℕ) (c : Contents) (q : List ℕ) (t : TokenAt) where
+  abbrev pub row : List ℕ
+  row = row_of (seek (codes lease) (table_in leases c).count (text_of q t.lease_id) (drop (table_in leases c).at x))
+
+  abbrev pub tests_of : List ℕ → ℕ
+  tests_of r = cond (eqb (length r) 0) 2 (cond (same_of r q) (cond (leb t.deadline_tick c.scalars.lease_clock_tick) 4 0) 3)
+
+  abbrev pub tests : ℕ
+  tests = cond (eqb c.format_version 1) (tests_of row) 1
 
 module _ {x : List ℕ} {c : Contents} {q : List ℕ} {t : TokenAt} (ready : ReadyToken x c q t) where
   abbrev s : State
@@ -74,66 +82,43 @@ module _ {x : List ℕ} {c : Contents} {q : List ℕ} {t : TokenAt} (ready : Rea
   unfolding validate_bytes
   validated = rw (ready.opened.reads, ready.asked)
 
-  pub other_format : (c.format_version ≡ 1 → ⊥) → 1 ≡ validate_bytes x q
+  stored : StoredIn leases s
+  stored = stored_in leases s ready.opened.formed
+
+  row_is : row x c q t ≡ all lease_row (at token.lease_id s.leases)
+  row_is =
+      (λ i. row_of (seek (codes lease) (count-is ready.opened.holds leases i) token.lease_id (drop (table_in leases c).at x)))
+      ∙ find_row (codes lease) lease_row x (table_in leases c).at s.leases (behind leases s) (table_here ready.opened.holds leases) stored.hopped token.lease_id
+
+  -- the lease that stands under the token's id, if any
+  ascends : Ascending s.leases
+  ascends = stored.ascending
+
+  row_of-one : (v : SnapshotLeaseToken) → at token.lease_id s.leases ≡ (token.lease_id ⟼ v) ∷ [] → row x c q t ≡ enc lease (lease_parts v)
+  unfolding all
+  row_of-one v e = row_is ∙ ap (all lease_row) e ∙ append-nil (enc lease (lease_parts v))
+
+  clock-is : s.lease_clock_tick ≡ c.scalars.lease_clock_tick
+  clock-is = sym (ap (λ (l : List ℕ). get_or l 8 0) ready.opened.holds.shows.numbers)
+
+  abbrev timely : ℕ → ℕ
+  timely clock = cond (leb token.deadline_tick clock) 4 0
+
+  found-is : validate_found s token (lookup token.lease_id s.leases) ≡ tests_of x c q t (row x c q t)
+  unfolding validate_found all
+  found-is = go (standing token.lease_id s.leases ascends)
+    where
+      go : Standing token.lease_id s.leases → validate_found s token (lookup token.lease_id s.leases) ≡ tests_of x c q t (row x c q t)
+      go (absent e l) = ap (validate_found s token) l ∙ sym (ap (tests_of x c q t) (row_is ∙ ap (all lease_row) e))
+      go (present v e l) =
+          let n : length (row x c q t) ≡ 0 → ⊥ = λ z. let k = ap length (row_of-one v e) in omega (arith, lease-long v) in
+          ap (validate_found s token) l
+          ∙ (λ i. cond (sym (same-lease v token (stored.found token.lease_id v l).1 ready.within) i) (timely (clock-is i)) 3)
+          ∙ (λ i. cond (same_of (sym (row_of-one v e) i) (sym token_bytes i)) (timely c.scalars.lease_clock_tick) 3)
+          ∙ sym (ap (λ (b : Bool). cond b 2 (cond (same_of (row x c q t) q) (timely c.scalars.lease_clock_tick) 3)) (ne_eqb (length (row x c q t)) 0 n))
+
+  pub tests_validate : validate_bytes x q ≡ tests x c q t
   unfolding validate
-  other_format h =
+  tests_validate =
       let e : s.format_version ≡ c.format_version = sym ready.opened.holds.shows.version in
-      sym (validated ∙ ap (λ (b : Bool). cond b (validate_found s token (lookup token.lease_id s.leases)) 1) (ne_eqb s.format_version 1 (λ z. h (sym e ∙ z))))
-
-  module _ (h : c.format_version ≡ 1) where
-    right_format : validate_bytes x q ≡ validate_found s token (lookup token.lease_id s.leases)
-    unfolding validate
-    right_format =
-        let e : s.format_version ≡ c.format_version = sym ready.opened.holds.shows.version in
-        validated ∙ ap (λ (b : Bool). cond b (validate_found s token (lookup token.lease_id s.leases)) 1) (eq-eqb s.format_version 1 (e ∙ h))
-
-    stored : StoredIn leases s
-    stored = stored_in leases s ready.opened.formed
-
-    module _ (row : List ℕ) (found : row ≡ row_of (seek (codes_of (shape lease)) (table_in leases c).count (text_of q t.lease_id) (drop (table_in leases c).at x))) where
-      row_is : row ≡ all lease_row (at token.lease_id s.leases)
-      row_is =
-          found
-          ∙ (λ i. row_of (seek (shape-codes lease refl i) (count-is ready.opened.holds leases i) token.lease_id (drop (table_in leases c).at x)))
-          ∙ find_row (codes lease) lease_row x (table_in leases c).at s.leases (behind leases s) (table_here ready.opened.holds leases) stored.hopped token.lease_id
-
-      -- the lease that stands under the token's id, if any
-      ascends : Ascending s.leases
-      ascends = stored.ascending
-
-      row_of-one : (v : SnapshotLeaseToken) → at token.lease_id s.leases ≡ (token.lease_id ⟼ v) ∷ [] → row ≡ enc lease (lease_parts v)
-      unfolding all
-      row_of-one v e = row_is ∙ ap (all lease_row) e ∙ append-nil (enc lease (lease_parts v))
-
-      pub missing : length row ≡ 0 → 2 ≡ validate_bytes x q
-      unfolding validate_found
-      missing n = go (standing token.lease_id s.leases ascends)
-        where
-          go : Standing token.lease_id s.leases → 2 ≡ validate_bytes x q
-          go (absent e l) = sym (right_format ∙ ap (validate_found s token) l)
-          go (present v e l) = absurd (let z = ap length (row_of-one v e) in omega (arith, lease-long v))
-
-      module _ (n : length row ≡ 0 → ⊥) where
-        stands : (b : Bool) → same_of row q ≡ b → validate_bytes x q ≡ cond b (cond (leb token.deadline_tick s.lease_clock_tick) 4 0) 3
-        unfolding validate_found all
-        stands b d = go (standing token.lease_id s.leases ascends)
-          where
-            go : Standing token.lease_id s.leases → validate_bytes x q ≡ cond b (cond (leb token.deadline_tick s.lease_clock_tick) 4 0) 3
-            go (absent e l) = absurd (n (ap length (row_is ∙ ap (all lease_row) e)))
-            go (present v e l) =
-                right_format ∙ ap (validate_found s token) l
-                ∙ ap (λ (b : Bool). cond b (cond (leb token.deadline_tick s.lease_clock_tick) 4 0) 3)
-                (sym (same-lease v token (stored.found token.lease_id v l).1 ready.within)
-                ∙ (λ i. same_of (sym (row_of-one v e) i) (sym (token_bytes) i)) ∙ d)
-
-        pub differs : same_of row q ≡ false → 3 ≡ validate_bytes x q
-        differs d = sym (stands false d)
-
-        clock-is : s.lease_clock_tick ≡ c.scalars.lease_clock_tick
-        clock-is = sym (ap (λ (l : List ℕ). get_or l 8 0) ready.opened.holds.shows.numbers)
-
-        pub expired : same_of row q ≡ true → t.deadline_tick ≤ c.scalars.lease_clock_tick → 4 ≡ validate_bytes x q
-        expired d k = sym (stands true d ∙ ap (λ (b : Bool). cond b 4 0) (le-leb token.deadline_tick s.lease_clock_tick (omega (arith, clock-is))))
-
-        pub active : same_of row q ≡ true → c.scalars.lease_clock_tick < t.deadline_tick → 0 ≡ validate_bytes x q
-        active d k = sym (stands true d ∙ ap (λ (b : Bool). cond b 4 0) (lt-leb token.deadline_tick s.lease_clock_tick (omega (arith, clock-is))))
+      validated ∙ (λ i. cond (eqb (e i) 1) (found-is i) 1)

@@ -3,47 +3,80 @@
 
 ghost use Rattle.std.specs.Prelude.{◌≡◌};
 ghost use Rattle.entries.specs.Bytes.{validate_bytes};
-ghost use Rattle.validation.specs.Validation.{ReadyToken};
+ghost use Rattle.validation.specs.Errors.{number, told};
+ghost use Rattle.validation.specs.declared.SnapshotLeaseValidationError.TheVariants.{Unread};
+ghost use Rattle.validation.specs.Validation.{tests};
 
 use image::Contents;
-use requests::{ParsedToken, SnapshotLeaseToken};
+use refusals::Refusal;
+use requests::SnapshotLeaseToken;
 
-// The Rust's tests in its order, on an image that was opened and a token that was read.
-fn validate_opened(image: &[u8], c: Contents, token: &[u8], t: SnapshotLeaseToken) -> u32
-    requires { ReadyToken image.now c token.now t }
-    ensures { result ≡ validate_bytes image.now token.now }
-{
-    if c.format_version != 1 {
-        return 1;
-    }
-    let tables = c.tables;
-    let leases = tables[image::LEASES];
-    let a = t.lease_id;
-    let id = parts::clip(token, a.at, a.len);
-    let active = tables::find(&image::LEASE, image, leases.at, leases.count, id);
-    if active.len() == 0 {
-        return 2;
-    }
-    if !text::same(active, token) {
-        return 3;
-    }
-    if t.deadline_tick <= c.scalars.lease_clock_tick {
-        return 4;
-    }
-    0
+// The Rust's `SnapshotLeaseValidationError`, in declared order; and why bytes that were lent are no image or no token.
+#[derive(Clone, Copy, Debug, PartialEq, Eq)]
+pub enum SnapshotLeaseValidationError {
+    AuthorityFormatInvalid,
+    LeaseMissing,
+    TokenMismatch,
+    LeaseExpired,
+    Unread(Refusal),
 }
 
-pub fn validate_active_snapshot_lease(image: &[u8], token: &[u8]) -> u32
-    ensures { result ≡ validate_bytes image.now token.now }
+impl From<Refusal> for SnapshotLeaseValidationError {
+    ghost from_gives = { λ r e. e ≡ Unread r };
+
+    fn from(refusal: Refusal) -> SnapshotLeaseValidationError {
+        SnapshotLeaseValidationError::Unread(refusal)
+    }
+}
+
+impl SnapshotLeaseValidationError {
+    pub fn number(self) -> u32
+        ensures { result ≡ number self }
+    {
+        match self {
+            SnapshotLeaseValidationError::AuthorityFormatInvalid => 1,
+            SnapshotLeaseValidationError::LeaseMissing => 2,
+            SnapshotLeaseValidationError::TokenMismatch => 3,
+            SnapshotLeaseValidationError::LeaseExpired => 4,
+            SnapshotLeaseValidationError::Unread(refusal) => refusal.number(),
+        }
+    }
+}
+
+// The Rust's tests in its order, on an image that was opened and a token that was read.
+fn validate_opened(
+    image: &[u8],
+    c: Contents,
+    token: &[u8],
+    t: SnapshotLeaseToken,
+) -> Result<(), SnapshotLeaseValidationError>
+    ensures { told result ≡ tests image.now c token.now t }
 {
-    let o = image::open(image);
-    if !o.found {
-        return 40;
+    if c.format_version != 1 {
+        return Err(SnapshotLeaseValidationError::AuthorityFormatInvalid);
     }
-    let c = o.contents;
-    let p = requests::parse_token(token);
-    match p {
-        ParsedToken::Fault(e) => e,
-        ParsedToken::Token(t) => validate_opened(image, c, token, t),
+    let leases = c.tables[image::LEASES];
+    let id = requests::text_of(token, t.lease_id);
+    let active = tables::find(&image::LEASE, image, leases.at, leases.count, id);
+    if active.is_empty() {
+        return Err(SnapshotLeaseValidationError::LeaseMissing);
     }
+    if !text::same(active, token) {
+        return Err(SnapshotLeaseValidationError::TokenMismatch);
+    }
+    if t.deadline_tick <= c.scalars.lease_clock_tick {
+        return Err(SnapshotLeaseValidationError::LeaseExpired);
+    }
+    Ok(())
+}
+
+pub fn validate_active_snapshot_lease(
+    image: &[u8],
+    token: &[u8],
+) -> Result<(), SnapshotLeaseValidationError>
+    ensures { told result ≡ validate_bytes image.now token.now }
+{
+    let c = image::open(image).ok_or(Refusal::NotAnImage)?;
+    let t = requests::parse_token(token)?;
+    validate_opened(image, c, token, t)
 }

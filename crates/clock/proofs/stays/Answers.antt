@@ -14,8 +14,8 @@ loop-i-init c = adding_start (kept_bytes c.args.tick) 1 c.args.s.now c.args.at c
 pub loop-i-preserved : goal.loop-i-preserved
 loop-i-preserved c = adding_on (kept_bytes c.args.tick) 1 c.args.s.now c.args.at c.args.n c.args.parts.now c.loop-i.i c.loop-i.p c.loop-i.parts c.loop-i.invariant _ _ (cond (due c.args.tick (drop c.loop-i.p c.args.s.now)) [] (row_of (drop c.loop-i.p c.args.s.now)))
     (kept_more c.args.tick (drop c.loop-i.p c.args.s.now))
-    (kept_run c.args.tick c.args.s.now c.loop-i.p _ _ _ _ c.loop-i.invariant.p_low c.is_due.ensures c.skip_record-q.ensures c.less.ensures c.len_unless.ensures)
-    c.loop-i-test.true c.skip_record-q.ensures (omega (arith, c.requires.0, c.requires.1)) _ c.set_part.ensures
+    (kept_run c.args.tick c.args.s.now c.loop-i.p _ _ _ _ c.loop-i.invariant.p_low c.is_due-gone.ensures c.skip_record-q.ensures c.saturating_sub.ensures c.len_unless.ensures)
+    c.loop-i-test.true c.skip_record-q.ensures (omega (arith, c.requires.0, c.requires.1))
 
 pub shape_of-parts : goal.shape_of-parts
 shape_of-parts c = c.loop-i.invariant.long

@@ -1,10 +1,6 @@
-use Prim.Native.Nat.{◌-◌}
 use Rattle.next.specs.Added.{Adding}
 use Rattle.clock.specs.Due.{kept_bytes}
 use Rattle.clock.proofs.stays.Given as goal
 
 abbrev pub invariant-loop-i : goal.invariant-loop-i
 invariant-loop-i l = Adding (kept_bytes l.tick) 1 l.s l.at l.n l.initial.parts l.i l.p l.parts
-
-abbrev pub decreases-loop-i : goal.decreases-loop-i
-decreases-loop-i l = l.n - l.i

@@ -1,3 +1,5 @@
+use Rattle.refusals.proofs.NumberLaws.{number-nonzero}
+use Rattle.parts.specs.declared.Part.TheVariants.{First}
 use mathlib.Core.Path.{refl}
 use mathlib.Core.List.{[], ◌∷◌}
 use lib.ListN.{length}
@@ -5,28 +7,27 @@ use Rattle.image.specs.TableLaws.{tables_place}
 use Rattle.machine.specs.Actions.{Applied}
 use Rattle.machine.specs.Next.{root_configured}
 use Rattle.requests.specs.Meaning.{text_of}
-use Rattle.next.specs.Call.{refused, done}
+use Rattle.next.specs.Call.{refused_exit, done}
 use Rattle.next.specs.Kept.{whole-tables}
 use Rattle.next.specs.declared.PublicationOutcome.{PublicationOutcome}
 use Rattle.collection.specs.Configure.{configure-refused, configured, configured_shows, configured_small}
 use Rattle.collection.proofs.configure_collection_root.Goals as goal
 
-pub returns-then-status-ne0 : goal.returns-then-status-ne0
-returns-then-status-ne0 c = let r = c.requires in
-    refused r c.configure_refusal-status.result
-    (configure-refused r _ c.clip-root.ensures _ _ c.located-known.ensures c.same_maybe-same.ensures _ c.configure_refusal-status.ensures c.if-status-ne0.true)
-    c.refuse.ensures
+pub returns-in_err-configure_refusal : goal.returns-in_err-configure_refusal
+returns-in_err-configure_refusal c = let r = c.requires in
+    refused_exit r _ c.from_residual.ensures.1
+    (configure-refused r _ c.text_of-root.ensures _ _ c.located-known.ensures c.same_maybe-same.ensures _ c.in_err-configure_refusal.ensures (number-nonzero _))
 
 pub emit-requires : goal.emit-requires
-emit-requires c = (configured_small c.requires _ c.clip-root.ensures _ c.less.ensures _ c.with_root-m.ensures _ c.raised-d.ensures, tt)
+emit-requires c = (configured_small c.requires _ c.text_of-root.ensures _ c.saturating_sub.ensures _ c.raised-raised.ensures, tt)
 
 pub returns : goal.returns
 returns c = let r = c.requires in
     let a = c.args in
-    done r (root_configured r.state (text_of a.request.now a.a.destination_root)) Applied a.request.now c.raised-d.result
-    (0 ∷ tables_place a.c ∷ length a.image.now ∷ []) a.image.now PublicationOutcome.Applied
-    (configured r _ c.clip-root.ensures _ _ c.located-known.ensures c.same_maybe-same.ensures _ c.configure_refusal-status.ensures c.if-status-ne0.false)
-    (configured_shows r _ c.clip-root.ensures _ c.less.ensures _ c.with_root-m.ensures _ c.raised-d.ensures)
-    (whole-tables r.holds a.request.now)
+    done r (root_configured r.state (text_of a.call.request.now a.a.destination_root)) Applied a.call.request.now c.raised-raised.result
+    (First (tables_place a.call.contents) (length a.call.image.now) ∷ []) a.call.image.now PublicationOutcome.Applied
+    (configured r _ c.text_of-root.ensures _ _ c.located-known.ensures c.same_maybe-same.ensures _ c.in_ok-configure_refusal.ensures refl)
+    (configured_shows r _ c.text_of-root.ensures _ c.saturating_sub.ensures _ c.raised-raised.ensures)
+    (whole-tables r.holds a.call.request.now)
     refl
     c.emit.ensures

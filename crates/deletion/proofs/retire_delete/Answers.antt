@@ -1,3 +1,5 @@
+use Rattle.refusals.proofs.NumberLaws.{number-nonzero}
+use Rattle.parts.specs.declared.Part.TheVariants.{First}
 use mathlib.Core.List.{[], ◌∷◌}
 use mathlib.Core.Path.{refl}
 use lib.ListN.{length}
@@ -5,25 +7,25 @@ use Rattle.image.specs.TableLaws.{tables_place}
 use Rattle.machine.specs.Actions.{Applied}
 use Rattle.machine.specs.Next.{retired}
 use Rattle.requests.specs.Meaning.{text_of}
-use Rattle.next.specs.Call.{refused, done}
+use Rattle.next.specs.Call.{refused_exit, done}
 use Rattle.next.specs.declared.PublicationOutcome.{PublicationOutcome}
 use Rattle.deletion.specs.RetireCall.{retire-refused, retire-taken, retire-small, retire-shows, retire-tables}
 use Rattle.deletion.proofs.retire_delete.Goals as goal
 
-pub returns-then-status-ne0 : goal.returns-then-status-ne0
-returns-then-status-ne0 c = let r = c.requires in
-    refused r c.retire_refusal-status.result (retire-refused r _ _ c.clip-key.ensures c.locate-place.ensures _ _ _ c.row.ensures c.clip-shown.ensures c.clip-plan.ensures _ c.retire_refusal-status.ensures c.if-status-ne0.true) c.refuse.ensures
+pub returns-in_err-retire_refusal : goal.returns-in_err-retire_refusal
+returns-in_err-retire_refusal c = let r = c.requires in
+    refused_exit r _ c.from_residual.ensures.1 (retire-refused r _ _ c.text_of-key.ensures c.locate-place.ensures _ _ _ c.row.ensures c.clip-shown.ensures c.text_of-plan.ensures _ c.in_err-retire_refusal.ensures (number-nonzero _))
 
 pub emit-requires : goal.emit-requires
-emit-requires c = (retire-small c.requires _ _ c.clip-key.ensures c.locate-place.ensures _ c.after_remove-after.ensures _ c.revised-d.ensures, tt)
+emit-requires c = (retire-small c.requires _ _ c.text_of-key.ensures c.locate-place.ensures _ c.after_remove-after.ensures _ c.revised-d.ensures, tt)
 
 pub returns : goal.returns
 returns c = let r = c.requires in
     let a = c.args in
-    done r (retired r.state (text_of a.request.now a.a.key)) Applied a.image.now _
-    (0 ∷ tables_place a.c ∷ c.less.result ∷ 0 ∷ c.locate-place.result.end ∷ length a.image.now ∷ []) a.image.now PublicationOutcome.Applied
-    (retire-taken r _ _ c.clip-key.ensures c.locate-place.ensures _ _ _ c.row.ensures c.clip-shown.ensures c.clip-plan.ensures _ c.retire_refusal-status.ensures c.if-status-ne0.false)
-    (retire-shows r _ _ c.clip-key.ensures c.locate-place.ensures _ c.after_remove-after.ensures _ c.revised-d.ensures)
-    (retire-tables r _ _ c.clip-key.ensures c.locate-place.ensures _ c.less.ensures)
+    done r (retired r.state (text_of a.call.request.now a.a.key)) Applied a.call.image.now _
+    (First (tables_place a.call.contents) c.saturating_sub.result ∷ First c.locate-place.result.end (length a.call.image.now) ∷ []) a.call.image.now PublicationOutcome.Applied
+    (retire-taken r _ _ c.text_of-key.ensures c.locate-place.ensures _ _ _ c.row.ensures c.clip-shown.ensures c.text_of-plan.ensures _ c.in_ok-retire_refusal.ensures refl)
+    (retire-shows r _ _ c.text_of-key.ensures c.locate-place.ensures _ c.after_remove-after.ensures _ c.revised-d.ensures)
+    (retire-tables r _ _ c.text_of-key.ensures c.locate-place.ensures _ c.saturating_sub.ensures)
     refl
     c.emit.ensures

@@ -1,31 +1,27 @@
-use Prim.Native.Nat.{◌+◌}
 use native.Mathlib.Omega.{arith}
-use mathlib.Core.Path.{ap}
-use lib.ListN.{drop, length, get_or, length-append}
+use lib.ListN.{drop, length-drop}
 use Rattle.parts.specs.Over.{going_start, going_more, going_done}
 use Rattle.image.specs.Layout.{written}
-use Rattle.image.specs.ImageParts.{entries_from}
 use Rattle.image.proofs.ImagePartLaws.{length-entries}
-use Rattle.image.specs.Opened.{measures_in, nowhere}
-use Rattle.image.specs.Front.{entry_bytes}
+use Rattle.image.specs.Opened.{measures_in}
 use Rattle.image.proofs.FrontLaws.{length-measures}
-use Rattle.image.proofs.FrontSteps.{light_at, length-entry, entries-more, entries-end}
+use Rattle.image.proofs.FrontSteps.{light_at, entries-more, entries-end}
 use Rattle.image.proofs.put_entries.Goals as goal
 
-pub loop-i-init : goal.loop-i-init
-loop-i-init c = let a = c.args in (omega arith, omega (arith, c.requires), going_start (omega (arith, c.requires, length-entries written.widths a.start (measures_in a.ts), length-measures a.ts)))
-
-pub bounds-ts-i : goal.bounds-ts-i
-bounds-ts-i c = omega (arith, c.requires, c.loop-i-test.true)
+pub loop-t-init : goal.loop-t-init
+loop-t-init c = let a = c.args in (omega arith, going_start (omega (arith, length-entries written.widths a.start (measures_in a.ts.now), length-measures a.ts.now)))
 
 pub put_entry-p-requires : goal.put_entry-p-requires
-put_entry-p-requires c = let l = c.loop-i in let a = c.args in let e = ap length (entries-more a.ts l.i l.place (omega (arith, c.requires, c.loop-i-test.true))) in let s = length-append (entry_bytes l.place (get_or a.ts l.i nowhere).size (get_or a.ts l.i nowhere).count) (entries_from written.widths (l.place + (get_or a.ts l.i nowhere).size) (drop (l.i + 1) (measures_in a.ts))) in let d = length-entry l.place (get_or a.ts l.i nowhere).size (get_or a.ts l.i nowhere).count in let r = l.invariant.2.room in let q = l.invariant.2.same in omega arith
+put_entry-p-requires c = let l = c.loop-t in let ms = measures_in c.args.ts.now in let g = l.invariant.1 in omega (arith, length-entries written.widths l.place (drop l.t-index ms), length-drop l.t-index ms, length-measures c.args.ts.now)
 
 pub overflow_add-place : goal.overflow_add-place
-overflow_add-place c = let l = c.loop-i in omega (arith, l.invariant.0, l.invariant.1, light_at c.args.ts l.i (omega (arith, c.requires, c.loop-i-test.true)) c.requires.2)
+overflow_add-place c = omega (arith, light_at c.args.ts.now c.loop-t.t-index (omega arith) c.requires.light)
 
-pub loop-i-preserved : goal.loop-i-preserved
-loop-i-preserved c = let l = c.loop-i in let a = c.args in (omega (arith, c.loop-i-test.true), omega (arith, l.invariant.1, light_at a.ts l.i (omega (arith, c.requires, c.loop-i-test.true)) c.requires.2), going_more l.invariant.2 _ _ (entries-more a.ts l.i l.place (omega (arith, c.requires, c.loop-i-test.true))) c.put_entry-p.ensures c.put_entry-p.auto.out)
+pub loop-t-preserved : goal.loop-t-preserved
+loop-t-preserved c = let l = c.loop-t in (
+  omega (arith, light_at c.args.ts.now l.t-index (omega arith) c.requires.light),
+  going_more l.invariant.1 _ _ (entries-more c.args.ts.now l.t-index l.place (omega arith)) c.put_entry-p.ensures c.put_entry-p.auto.out,
+)
 
 pub returns : goal.returns
-returns c = let l = c.loop-i in going_done l.invariant.2 (entries-end c.args.ts l.i l.place (omega (arith, c.requires, c.loop-i-test.false)))
+returns c = let l = c.loop-t in going_done l.invariant.1 (entries-end c.args.ts.now l.t-index l.place (omega arith))

@@ -8,10 +8,10 @@ use Rattle.image.proofs.FrontSteps.{length-entry}
 use Rattle.image.proofs.put_entry.Goals as goal
 
 pub put_digits-q-requires : goal.put_digits-q-requires
-put_digits-q-requires c = omega (arith, c.put_digits-p.ensures.place, c.put_digits-p.auto.out, length_digits 4 c.args.place, c.requires)
+put_digits-q-requires c = omega (arith, c.put_digits-p.ensures.place, c.put_digits-p.auto.out, length_digits 4 c.args.entry.at, c.requires)
 
 pub put_digits-requires : goal.put_digits-requires
-put_digits-requires c = omega (arith, c.put_digits-p.ensures.place, c.put_digits-p.auto.out, c.put_digits-q.ensures.place, c.put_digits-q.auto.out, length_digits 4 c.args.place, length_digits 4 c.args.size, c.requires)
+put_digits-requires c = let e = c.args.entry in omega (arith, c.put_digits-p.ensures.place, c.put_digits-p.auto.out, c.put_digits-q.ensures.place, c.put_digits-q.auto.out, length_digits 4 e.at, length_digits 4 e.size, c.requires)
 
 pub returns : goal.returns
-returns c = let a = c.args in then (then c.put_digits-p.ensures c.put_digits-q.ensures (omega (arith, length_digits 4 a.place, length_digits 4 a.size, c.requires))) c.put_digits.ensures (omega (arith, length-entry a.place a.size a.count, length-append (digits 4 a.place ++ digits 4 a.size) (digits 1 a.count), c.requires))
+returns c = let e = c.args.entry in then (then c.put_digits-p.ensures c.put_digits-q.ensures (omega (arith, length_digits 4 e.at, length_digits 4 e.size, c.requires))) c.put_digits.ensures (omega (arith, length-entry e, length-append (digits 4 e.at ++ digits 4 e.size) (digits 1 e.count), c.requires))

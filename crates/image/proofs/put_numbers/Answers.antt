@@ -1,22 +1,17 @@
-use Prim.Native.Nat.{◌+◌}
 use native.Mathlib.Omega.{arith}
-use mathlib.Core.Path.{ap}
-use lib.ListN.{drop, length, get_or, length-append}
-use Rattle.parts.specs.Digits.{digits}
-use Rattle.parts.specs.DigitLaws.{length_digits}
+use lib.ListN.{drop, length-drop}
 use Rattle.parts.specs.Over.{going_start, going_more, going_done}
-use Rattle.image.specs.ImageParts.{words}
 use Rattle.image.proofs.FrontSteps.{length-words, words_more, words-end}
 use Rattle.image.proofs.put_numbers.Goals as goal
 
-pub loop-i-init : goal.loop-i-init
-loop-i-init c = (omega arith, going_start (omega (arith, c.requires, length-words c.args.ns.now)))
+pub loop-n-init : goal.loop-n-init
+loop-n-init c = going_start (omega (arith, length-words c.args.ns.now))
 
 pub put_digits-p-requires : goal.put_digits-p-requires
-put_digits-p-requires c = let l = c.loop-i in let ns = c.args.ns.now in let e = ap length (words_more ns l.i c.loop-i-test.true) in let s = length-append (digits 8 (get_or ns l.i 0)) (words (drop (l.i + 1) ns)) in let d = length_digits 8 (get_or ns l.i 0) in let r = l.invariant.1.room in let q = l.invariant.1.same in omega arith
+put_digits-p-requires c = let l = c.loop-n in omega (arith, length-words (drop l.n-index c.args.ns.now), length-drop l.n-index c.args.ns.now)
 
-pub loop-i-preserved : goal.loop-i-preserved
-loop-i-preserved c = let l = c.loop-i in (omega (arith, c.loop-i-test.true), going_more l.invariant.1 _ _ (words_more c.args.ns.now l.i c.loop-i-test.true) c.put_digits-p.ensures c.put_digits-p.auto.out)
+pub loop-n-preserved : goal.loop-n-preserved
+loop-n-preserved c = going_more c.loop-n.invariant _ _ (words_more c.args.ns.now c.loop-n.n-index c.loop-n-test.true) c.put_digits-p.ensures c.put_digits-p.auto.out
 
 pub returns : goal.returns
-returns c = let l = c.loop-i in going_done l.invariant.1 (words-end c.args.ns.now l.i c.loop-i-test.false)
+returns c = going_done c.loop-n.invariant (words-end c.args.ns.now c.loop-n.n-index c.loop-n-test.false)

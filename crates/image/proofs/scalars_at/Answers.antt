@@ -1,10 +1,29 @@
-use mathlib.Core.Path.{sym, ap, ◌∙◌}
-use Rattle.image.specs.Placed.{scalars_from}
-use Rattle.image.proofs.Steps.{window-none, window_some}
+use mathlib.Core.Path.{ap, ◌∙◌}
+use Prim.Native.Nat.{◌+◌}
+use Rattle.std.specs.Prelude.{◌≡◌}
+use Rattle.image.specs.Front.{window_width}
+use Rattle.image.specs.Placed.{after_window, scalars_from}
+use Rattle.image.proofs.Steps.{after-window}
 use Rattle.image.proofs.scalars_at.Goals as goal
 
-pub returns-then-byte_at-eq0 : goal.returns-then-byte_at-eq0
-returns-then-byte_at-eq0 c = let a = c.args in c.scalars_from.ensures ∙ ap (scalars_from a.s.now a.at) (sym (window-none a.s.now a.at (sym c.byte_at.ensures ∙ c.if-byte_at-eq0.true)))
-
 pub returns : goal.returns
-returns c = let a = c.args in c.scalars_from-2.ensures ∙ ap (scalars_from a.s.now a.at) (sym (window_some a.s.now a.at (λ z. c.if-byte_at-eq0.false (c.byte_at.ensures ∙ z))))
+returns c =
+    let a = c.args in
+    let p : a.at + 33 + c.window_width.result ≡ after_window a.s.now a.at =
+    ap (λ n. a.at + 33 + n) (c.window_width.ensures ∙ ap window_width c.maybe_number_at-retention_window.ensures) ∙ after-window a.s.now a.at in
+    (λ i. record {
+      term = c.u64_at.ensures i;
+      index = c.u64_at-2.ensures i;
+      root_intent_epoch = c.u64_at-3.ensures i;
+      observed_commit_frontier = c.u64_at-4.ensures i;
+      retention_window = c.maybe_number_at-retention_window.ensures i;
+      retention_policy_epoch = c.u64_at-5.ensures i;
+      policy_floor = c.u64_at-6.ensures i;
+      minimum_readable_version = c.u64_at-7.ensures i;
+      physically_collected_through = c.u64_at-8.ensures i;
+      lease_clock_tick = c.u64_at-9.ensures i;
+      lease_epoch = c.u64_at-10.ensures i;
+      range_map_epoch = c.u64_at-11.ensures i;
+      collection_root = c.maybe_text_at.ensures i;
+    })
+    ∙ ap (scalars_from a.s.now a.at) p

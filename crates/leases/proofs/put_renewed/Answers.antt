@@ -1,3 +1,4 @@
+use Rattle.parts.specs.declared.Part.TheVariants.{First, Number}
 use Prim.Native.Nat.{◌+◌}
 use mathlib.Core.List.{[], ◌∷◌}
 use native.Mathlib.Omega.{arith}
@@ -22,37 +23,35 @@ pub overflow_add-deadline : goal.overflow_add-deadline
 overflow_add-deadline c = let low = ends_low c.requires in omega (arith, low.2)
 
 pub overflow_add-body : goal.overflow_add-body
-overflow_add-body c = let low = ends_low c.requires in omega (arith, low.0, low.1, low.2, low.3, c.less-rest.ensures)
+overflow_add-body c = let low = ends_low c.requires in omega (arith, low.0, low.1, low.2, low.3, c.saturating_sub-rest.ensures)
 
 pub overflow_add-body-2 : goal.overflow_add-body-2
-overflow_add-body-2 c = let low = ends_low c.requires in omega (arith, low.0, low.1, low.2, low.3, c.less-rest.ensures)
+overflow_add-body-2 c = let low = ends_low c.requires in omega (arith, low.0, low.1, low.2, low.3, c.saturating_sub-rest.ensures)
 
 pub overflow_add-body-3 : goal.overflow_add-body-3
-overflow_add-body-3 c = let low = ends_low c.requires in omega (arith, low.0, low.1, low.2, low.3, c.less-rest.ensures)
+overflow_add-body-3 c = let low = ends_low c.requires in omega (arith, low.0, low.1, low.2, low.3, c.saturating_sub-rest.ensures)
 
 pub overflow_add-keys : goal.overflow_add-keys
-overflow_add-keys c = let low = ends_low c.requires in omega (arith, low.0, low.1, low.2, low.3, c.less-rest.ensures)
+overflow_add-keys c = let low = ends_low c.requires in omega (arith, low.0, low.1, low.2, low.3, c.saturating_sub-rest.ensures)
 
 pub overflow_add-deadline-2 : goal.overflow_add-deadline-2
-overflow_add-deadline-2 c = let low = ends_low c.requires in omega (arith, low.0, low.1, low.2, low.3, c.less-rest.ensures)
+overflow_add-deadline-2 c = let low = ends_low c.requires in omega (arith, low.0, low.1, low.2, low.3, c.saturating_sub-rest.ensures)
 
 pub emit-requires : goal.emit-requires
-emit-requires c = let w = c.requires in (renew-small w c.with_leases-d.ensures c.after_insert-table.ensures, renew-fits w c.less-rest.ensures c.up-epoch.ensures c.less-2.ensures c.less-3.ensures c.less-4.ensures)
+emit-requires c = let w = c.requires in (renew-small w c.with_leases-d.ensures c.after_insert-table.ensures, renew-fits w c.saturating_sub-rest.ensures c.up-epoch.ensures c.saturating_sub-2.ensures c.saturating_sub-3.ensures c.saturating_sub-4.ensures)
 
 pub returns : goal.returns
 returns c = let w = c.requires in
     let a = c.args in
     let deadline = a.held.purpose.at + a.held.purpose.len in
-    let rest = c.less-rest in
-    let before = c.less in
-    let first = c.less-2 in
-    let second = c.less-3 in
-    let third = c.less-4 in
+    let rest = c.saturating_sub-rest in
+    let before = c.saturating_sub in
+    let first = c.saturating_sub-2 in
+    let second = c.saturating_sub-3 in
+    let third = c.saturating_sub-4 in
     let epoch = c.up-epoch in
-    done w.ready (renewed w.ready.state (text_of a.request.now a.a.lease_id) (new w) a.f.omit_lease_root_epoch) (LeaseRenewed (new w)) a.image.now _
-    (0 ∷ tables_place a.c ∷ before.result ∷ 0 ∷ a.p.start ∷ first.result ∷ 2 ∷ epoch.result ∷ 8 ∷ 0 ∷ (a.p.start + rest.result) ∷ second.result
-    ∷ 2 ∷ a.a.new_deadline_tick ∷ 8 ∷ 0 ∷ (a.p.start + (deadline + 8)) ∷ third.result
-    ∷ 2 ∷ a.x.generation ∷ 8 ∷ 2 ∷ a.x.position.term ∷ 8 ∷ 2 ∷ a.x.position.index ∷ 8 ∷ 0 ∷ a.p.end ∷ length a.image.now ∷ [])
+    done w.ready (renewed w.ready.state (text_of a.call.request.now a.a.lease_id) (new w) a.call.faults.omit_lease_root_epoch) (LeaseRenewed (new w)) a.call.image.now _
+    (First (tables_place a.call.contents) before.result ∷ First a.p.start first.result ∷ Number epoch.result 8 ∷ First (a.p.start + rest.result) second.result ∷ Number a.a.new_deadline_tick 8 ∷ First (a.p.start + (deadline + 8)) third.result ∷ Number a.call.context.generation 8 ∷ Number a.call.context.position.term 8 ∷ Number a.call.context.position.index 8 ∷ First a.p.end (length a.call.image.now) ∷ [])
     a.row.now (PublicationOutcome.LeaseRenewed (told w rest.ensures epoch.ensures first.ensures second.ensures third.ensures))
     w.taken
     (renew-shows w c.with_leases-d.ensures c.after_insert-table.ensures epoch.ensures c.up_unless-root_epoch.ensures)

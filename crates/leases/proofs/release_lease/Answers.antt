@@ -1,3 +1,5 @@
+use Rattle.refusals.proofs.NumberLaws.{number-nonzero}
+use Rattle.parts.specs.declared.Part.TheVariants.{First}
 use mathlib.Core.Path.{refl}
 use mathlib.Core.List.{[], ◌∷◌}
 use lib.ListN.{length}
@@ -6,27 +8,27 @@ use Rattle.image.specs.TableLaws.{tables_place}
 use Rattle.machine.specs.Actions.{Applied}
 use Rattle.machine.specs.Next.{released}
 use Rattle.requests.specs.Meaning.{text_of}
-use Rattle.next.specs.Call.{refused, done}
+use Rattle.next.specs.Call.{refused_exit, done}
 use Rattle.next.specs.declared.PublicationOutcome.{PublicationOutcome}
 use Rattle.edits.specs.PlaceLaws.{located_as, removed_tables}
 use Rattle.leases.specs.Release.{release-refused, release-taken, release-small, release-shows}
 use Rattle.leases.proofs.release_lease.Goals as goal
 
-pub returns-then-status-ne0 : goal.returns-then-status-ne0
-returns-then-status-ne0 c = let r = c.requires in
-    let found = located_as leases c.clip-id.ensures c.locate-p.ensures in
-    refused r _ (release-refused r found c.row-row.ensures c.number_after-held.ensures c.release_refusal-status.ensures c.if-status-ne0.true) c.refuse.ensures
+pub returns-in_err-release_refusal : goal.returns-in_err-release_refusal
+returns-in_err-release_refusal c = let r = c.requires in
+    let found = located_as leases c.text_of-id.ensures c.locate-p.ensures in
+    refused_exit r _ c.from_residual.ensures.1 (release-refused r found c.row-row.ensures c.number_after-held.ensures c.in_err-release_refusal.ensures (number-nonzero _))
 
 pub emit-requires : goal.emit-requires
-emit-requires c = let found = located_as leases c.clip-id.ensures c.locate-p.ensures in (release-small c.requires found c.with_leases-d.ensures c.after_remove-table.ensures, tt)
+emit-requires c = let found = located_as leases c.text_of-id.ensures c.locate-p.ensures in (release-small c.requires found c.with_leases-d.ensures c.after_remove-table.ensures, tt)
 
 pub returns : goal.returns
 returns c = let r = c.requires in
     let a = c.args in
     let place = c.locate-p.result in
-    let found = located_as leases c.clip-id.ensures c.locate-p.ensures in
-    done r (released r.state (text_of a.request.now a.a.lease_id) a.f.omit_lease_root_epoch) Applied a.image.now _
-    (0 ∷ tables_place a.c ∷ c.less.result ∷ 0 ∷ place.end ∷ length a.image.now ∷ []) a.image.now PublicationOutcome.Applied
-    (release-taken r found c.row-row.ensures c.number_after-held.ensures c.release_refusal-status.ensures c.if-status-ne0.false)
-    (release-shows r found c.with_leases-d.ensures c.after_remove-table.ensures c.clip-id.ensures c.up-epoch.ensures c.up_unless-root_epoch.ensures c.policy_for-policy.ensures c.oldest_without-candidate.ensures c.readable_for-readable.ensures)
-    (removed_tables r.holds r.formed leases found a.request.now _ c.less.ensures) refl c.emit.ensures
+    let found = located_as leases c.text_of-id.ensures c.locate-p.ensures in
+    done r (released r.state (text_of a.call.request.now a.a.lease_id) a.call.faults.omit_lease_root_epoch) Applied a.call.image.now _
+    (First (tables_place a.call.contents) c.saturating_sub.result ∷ First place.end (length a.call.image.now) ∷ []) a.call.image.now PublicationOutcome.Applied
+    (release-taken r found c.row-row.ensures c.number_after-held.ensures c.in_ok-release_refusal.ensures refl)
+    (release-shows r found c.with_leases-d.ensures c.after_remove-table.ensures c.text_of-id.ensures c.up-epoch.ensures c.up_unless-root_epoch.ensures c.policy_for-policy.ensures c.oldest_without-candidate.ensures c.readable_for-readable.ensures)
+    (removed_tables r.holds r.formed leases found a.call.request.now _ c.saturating_sub.ensures) refl c.emit.ensures

@@ -1,9 +1,6 @@
-use Prim.Native.Nat.{ℕ}
-use native.Mathlib.Nat.{sub-zero}
-use mathlib.Core.Path.{refl, ap}
-use lib.ListN.{take}
+use Rattle.std.proofs.Common.{refl, ◌∙◌}
 use Rattle.next.specs.Emit.{emitted}
 use Rattle.next.proofs.commit.Goals as goal
 
 pub returns : goal.returns
-returns c = let a = c.args in emitted a.image.now a.request.now a.body.now _ _ _ _ _ _ _ _ _ _ _ refl (ap (λ (k : ℕ). take k a.f.bytes) (sub-zero a.f.len)) refl c.emit.ensures
+returns c = let a = c.args in emitted a.call.image.now a.call.request.now a.change.body.now c.over_limit-over.ensures (c.as_slice.ensures ∙ c.front_of-front.ensures) refl c.emit.ensures

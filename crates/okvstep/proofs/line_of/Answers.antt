@@ -1,8 +1,6 @@
-use Prim.Native.Nat.{ℕ}
-use mathlib.Core.Path.{ap}
-use mathlib.Core.List.{List, ◌∷◌}
+use Rattle.image.proofs.Default.{default-contents}
 use Rattle.okvstep.proofs.Steps.{line_is}
 use Rattle.okvstep.proofs.line_of.Goals as goal
 
 pub returns : goal.returns
-returns c = let a = c.args in ap (λ (l : List ℕ). a.frame ∷ a.status ∷ l) (line_is a.image.now _ c.open-o.ensures)
+returns c = line_is c.args.step c.args.status _ _ default-contents c.args.image.now _ c.open.ensures c.unwrap_or_default.ensures

@@ -1,10 +1,6 @@
-use Prim.Native.Nat.{◌≤◌, ◌-◌, ◌+◌}
+use Rattle.std.proofs.Common.{◌≡◌, ◌-◌, ◌++◌, length, take}
 use Rattle.parts.specs.Digits.{digits}
-use Rattle.parts.specs.Over.{Going}
 use Rattle.parts.proofs.put_digits.Given as goal
 
-abbrev pub invariant-loop-i : goal.invariant-loop-i
-invariant-loop-i l = (l.i ≤ l.n) × Going l.initial.out l.at (digits l.n l.v) (digits (l.n - l.i) l.x) (l.at + l.i) l.out
-
-abbrev pub decreases-loop-i : goal.decreases-loop-i
-decreases-loop-i l = l.n - l.i
+abbrev pub invariant-loop-byte : goal.invariant-loop-byte
+invariant-loop-byte l = (length l.byte-items ≡ l.n) × (take l.byte-index l.byte-items ++ digits (l.n - l.byte-index) l.rest ≡ digits l.n l.v)

@@ -1,3 +1,5 @@
+use Rattle.refusals.proofs.NumberLaws.{number-nonzero}
+use Rattle.parts.specs.declared.Part.TheVariants.{First}
 use mathlib.Core.List.{[], ◌∷◌}
 use mathlib.Core.Path.{refl}
 use lib.ListN.{length}
@@ -5,27 +7,27 @@ use Rattle.image.specs.TableLaws.{tables_place}
 use Rattle.machine.specs.Actions.{Applied}
 use Rattle.machine.specs.Next.{unpinned}
 use Rattle.requests.specs.Meaning.{text_of}
-use Rattle.next.specs.Call.{refused, done}
+use Rattle.next.specs.Call.{refused_exit, done}
 use Rattle.next.specs.declared.PublicationOutcome.{PublicationOutcome}
 use Rattle.publication.specs.UnpinCall.{unpin-refused, unpin-taken, unpin-small, unpin-shows, unpin-tables}
 use Rattle.publication.proofs.unpin.Goals as goal
 
-pub returns-then-status-ne0 : goal.returns-then-status-ne0
-returns-then-status-ne0 c = let r = c.requires in
-    refused r c.unpin_refusal-status.result (unpin-refused r _ c.clip-id.ensures _ c.locate-p.ensures _ _ c.row.ensures c.clip-expected.ensures _ c.unpin_refusal-status.ensures c.if-status-ne0.true) c.refuse.ensures
+pub returns-in_err-unpin_refusal : goal.returns-in_err-unpin_refusal
+returns-in_err-unpin_refusal c = let r = c.requires in
+    refused_exit r _ c.from_residual.ensures.1 (unpin-refused r _ c.text_of-id.ensures _ c.locate-p.ensures _ _ c.row.ensures c.clip-expected.ensures _ c.in_err-unpin_refusal.ensures (number-nonzero _))
 
 pub emit-requires : goal.emit-requires
-emit-requires c = (unpin-small c.requires _ c.clip-id.ensures _ c.locate-p.ensures _ c.after_remove-after.ensures _ c.raised-d.ensures, tt)
+emit-requires c = (unpin-small c.requires _ c.text_of-id.ensures _ c.locate-p.ensures _ c.after_remove-after.ensures _ c.raised-d.ensures, tt)
 
 pub returns : goal.returns
 returns c = let r = c.requires in
     let a = c.args in
-    let id = c.clip-id in
+    let id = c.text_of-id in
     let place = c.locate-p in
-    let ahead = c.less in
-    done r (unpinned r.state (text_of a.request.now a.a.pin_id)) Applied a.image.now _
-    (0 ∷ tables_place a.c ∷ ahead.result ∷ 0 ∷ place.result.end ∷ length a.image.now ∷ []) a.image.now PublicationOutcome.Applied
-    (unpin-taken r _ id.ensures _ place.ensures _ _ c.row.ensures c.clip-expected.ensures _ c.unpin_refusal-status.ensures c.if-status-ne0.false)
+    let ahead = c.saturating_sub in
+    done r (unpinned r.state (text_of a.call.request.now a.a.pin_id)) Applied a.call.image.now _
+    (First (tables_place a.call.contents) ahead.result ∷ First place.result.end (length a.call.image.now) ∷ []) a.call.image.now PublicationOutcome.Applied
+    (unpin-taken r _ id.ensures _ place.ensures _ _ c.row.ensures c.clip-expected.ensures _ c.in_ok-unpin_refusal.ensures refl)
     (unpin-shows r _ id.ensures _ place.ensures _ c.after_remove-after.ensures _ c.raised-d.ensures)
     (unpin-tables r _ id.ensures _ place.ensures _ ahead.ensures)
     refl

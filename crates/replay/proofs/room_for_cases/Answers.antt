@@ -1,6 +1,5 @@
-use Prim.Native.Nat.{ℕ}
-use mathlib.Core.Path.{sym}
-use lib.ListN.{length-replicate}
+use Rattle.std.proofs.Common.{ℕ, sym}
+use Rattle.std.proofs.lemmas.List.{length-replicate}
 use Rattle.replay.proofs.room_for_cases.Goals as goal
 
 pub returns : goal.returns

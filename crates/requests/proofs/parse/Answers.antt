@@ -1,18 +1,32 @@
-use mathlib.Core.Path.{sym, ap, ◌∙◌}
-use Rattle.requests.specs.Request.{decode_request}
-use Rattle.requests.proofs.CheckedLaws.{reply-fault}
-use Rattle.requests.specs.Positions.{parsed_in}
-use Rattle.requests.proofs.Heads.{parsed, request-placed}
+use Rattle.std.proofs.Common.{ap, ◌∙◌}
+use Rattle.requests.specs.Meaning.{parsed_of}
+use Rattle.requests.proofs.Heads.{parsed_steps, parsed_means}
 use Rattle.requests.proofs.parse.Goals as goal
 
-pub returns-in-Fault : goal.returns-in-Fault
-returns-in-Fault c = let s = c.args.s.now in let q = parsed s (ap (parsed_in s) (reply-fault (decode_request s) _ (sym c.check_request-c.ensures ∙ c.in-Fault.is))) in record {
-  result_value = q.0;
-  placed = q.1;
-}
+-- the cursor's places are those of the steps
+pub returns-clause-placed : goal.returns-clause-placed
+returns-clause-placed c =
+    let flags = rw c.context-context.ensures.on at c.flags.ensures.value in
+    let flags_on = rw c.context-context.ensures.on at c.flags.ensures.on in
+    let byte = rw flags_on at c.byte.ensures.value in
+    let byte_on = rw flags_on at c.byte.ensures.on in
+    let checked = rw (byte_on, c.shape.ensures) at c.check_record.ensures in
+    let action = rw byte_on at c.action.ensures in
+    rw (
+      parsed_steps,
+      ← c.walk_record.ensures.read,
+      c.in_ok-walk_record.was,
+      ← flags,
+      ← c.try_from.ensures,
+      c.in_ok-faults.was,
+      ← byte,
+      ← c.try_from-2.ensures,
+      c.in_ok-tag.was,
+      ← checked,
+      c.in_ok-check_record.was,
+      ← c.context-context.ensures.value,
+      ← action,
+    )
 
-pub returns-in-Whole : goal.returns-in-Whole
-returns-in-Whole c = let s = c.args.s.now in let q = parsed s (request-placed s _ _ _ _ _ c.context_at.ensures c.flags_at.ensures c.faults_from.ensures c.byte_at.ensures c.action_at.ensures (sym c.check_request-c.ensures ∙ c.in-Whole.is)) in record {
-  result_value = q.0;
-  placed = q.1;
-}
+pub returns-clause-result_value : goal.returns-clause-result_value
+returns-clause-result_value c = ap (parsed_of c.args.s.now) (returns-clause-placed c) ∙ parsed_means c.args.s.now

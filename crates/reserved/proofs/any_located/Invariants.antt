@@ -1,16 +1,12 @@
+use Rattle.std.proofs.Common.{◌≡◌, drop}
+use Rattle.state.specs.Maps.{any}
+use Rattle.sets.specs.Sets.{set_of, keys_left}
 use Rattle.reserved.specs.Located.{located_in}
 use Rattle.reserved.specs.Passed.{Passed}
-use Rattle.fields.specs.Codes.{codes_of}
-use Rattle.fields.specs.Rows.{text_here}
-use Rattle.sets.specs.Sets.{set_of, texts_of}
-use Rattle.state.specs.Maps.{any}
-use mathlib.Core.Path.{◌≡◌}
-use Prim.Native.Nat.{◌-◌}
-use lib.ListN.{drop}
 use Rattle.reserved.proofs.any_located.Given as goal
 
-abbrev pub invariant-loop-i : goal.invariant-loop-i
-invariant-loop-i l = (any (located_in (codes_of l.codes) l.n (drop l.at l.s)) (set_of (drop l.set_at l.holder)) ≡ any (located_in (codes_of l.codes) l.n (drop l.at l.s)) (texts_of (l.keys - l.i) (drop l.p l.holder))) × Passed (codes_of l.codes) l.n (drop l.at l.s) (text_here (drop l.last l.holder)) l.stop.left (drop l.stop.at l.s)
-
-abbrev pub decreases-loop-i : goal.decreases-loop-i
-decreases-loop-i l = l.keys - l.i
+abbrev pub invariant-loop-key : goal.invariant-loop-key
+invariant-loop-key l = record {
+  keys : any (located_in l.codes l.n (drop l.at l.s)) (set_of (drop l.set_at l.holder)) ≡ any (located_in l.codes l.n (drop l.at l.s)) (keys_left l.key-iterator);
+  passed : Passed l.codes l.n (drop l.at l.s) l.last l.from.rows (drop l.from.at l.s);
+}

@@ -1,18 +1,21 @@
-use Prim.Native.Nat.{◌+◌}
-use mathlib.Core.Path.{refl, sym, ◌∙◌}
-use native.Mathlib.Omega.{arith}
-use Rattle.text.specs.SameLaws.{same_true}
-use Rattle.text.proofs.Steps.{take_on}
+use Rattle.std.proofs.Common.{◌≡◌, ◌≤◌, ◌*◌, ◌/◌, arith, rules, tests, not, length, take}
+use Rattle.std.proofs.lemmas.Iterator.{YieldsList-from_slice, YieldsList-from_zip}
+use Rattle.std.proofs.lemmas.Iterator.Search.{position_from_yields_List}
+use Rattle.text.proofs.Heads.{first_off, heads_to}
+use Rattle.std.specs.Str.{bytes_eq}
 use Rattle.text.proofs.alike.Goals as goal
+use Rattle.text.proofs.alike.Goals.{After-unwrap_or}
 
-pub loop-i-init : goal.loop-i-init
-loop-i-init c = (omega arith, refl, refl)
+runs : (c : After-unwrap_or) → (c.unwrap_or.result ≤ length c.args.a.now / 32) × (take (c.unwrap_or.result * 32) c.args.a.now ≡ take (c.unwrap_or.result * 32) c.args.b.now)
+runs c =
+    let xs = c.as_chunks.result.0.now in let ys = c.as_chunks-2.result.0.now in
+    let f : c.position-first.result ≡ first_off xs ys =
+    position_from_yields_List (λ p. not (bytes_eq p.0 p.1)) c.position-first.new.self _ c.position-first.result c.position-first.ensures.ran (YieldsList-from_zip (YieldsList-from_slice xs cc) (YieldsList-from_slice ys cc)) (λ x b q k. search (rules, tests)) in
+    heads_to 32 c.args.a.now c.args.b.now xs ys c.position-first.result c.unwrap_or.result c.requires
+    c.as_chunks.ensures.front c.as_chunks.ensures.front_len c.as_chunks-2.ensures.front c.as_chunks-2.ensures.front_len f c.unwrap_or.ensures
 
-pub returns-then-not-same : goal.returns-then-not-same
-returns-then-not-same c = c.loop-i.invariant
-
-pub loop-i-preserved : goal.loop-i-preserved
-loop-i-preserved c = (omega arith, omega (arith, c.loop-i.invariant.1), take_on c.args.a.now c.args.b.now c.loop-i.i (c.loop-i.i + 32) (omega arith) c.loop-i.invariant.2 (same_true _ _ (sym c.same.ensures ∙ c.if-not-same.false)))
+pub overflow_mul-result : goal.overflow_mul-result
+overflow_mul-result c = let h = runs c in omega arith
 
 pub returns : goal.returns
-returns c = c.loop-i.invariant
+returns c = let h = runs c in let z : c.unwrap_or.result * 32 ≡ 8 * (4 * c.unwrap_or.result) = omega arith in (omega arith, rw z at h.1)

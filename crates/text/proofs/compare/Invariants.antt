@@ -1,17 +1,9 @@
--- Up to i both are the same: whole runs, then whole words, then bytes.
-use Prim.Native.Nat.{◌*◌, ◌-◌, ◌/◌, ◌%◌, ◌≤◌}
-use mathlib.Core.Path.{◌≡◌}
-use lib.ListN.{take}
+-- Both texts are the same in the words passed, and then in the bytes passed.
+use Rattle.std.proofs.Common.{◌≡◌, ◌*◌, ◌≤◌, ◌/◌, take}
 use Rattle.text.proofs.compare.Given as goal
 
+abbrev pub invariant-loop-k : goal.invariant-loop-k
+invariant-loop-k l = (l.k ≤ l.n / 8) × (take (8 * l.k) l.a ≡ take (8 * l.k) l.b)
+
 abbrev pub invariant-loop-i : goal.invariant-loop-i
-invariant-loop-i l = (l.i ≤ l.n) × (l.i % 8 ≡ 0) × (take l.i l.a ≡ take l.i l.b)
-
-abbrev pub decreases-loop-i : goal.decreases-loop-i
-decreases-loop-i l = l.n - l.i
-
-abbrev pub invariant-loop-i-2 : goal.invariant-loop-i-2
-invariant-loop-i-2 l = (l.i ≤ l.n) × (8 * (l.n / 8) ≤ l.i) × (take l.i l.a ≡ take l.i l.b)
-
-abbrev pub decreases-loop-i-2 : goal.decreases-loop-i-2
-decreases-loop-i-2 l = l.n - l.i
+invariant-loop-i l = take l.i l.a ≡ take l.i l.b

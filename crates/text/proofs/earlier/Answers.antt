@@ -1,4 +1,6 @@
+use Rattle.std.proofs.Common.{arith}
+use Rattle.text.proofs.WordLaws.{big_is}
 use Rattle.text.proofs.earlier.Goals as goal
 
 pub returns : goal.returns
-returns c = cc (c.swap_bytes-w.ensures, c.swap_bytes-v.ensures)
+returns c = let w = c.well_formed in grind (arith, big_is)

@@ -1,13 +1,10 @@
--- The loop has passed whole chars: the text is UTF-8 exactly where what is left from i on is.
--- what the call says, of the list from i on
-use Prim.Native.Nat.{◌≤◌, ◌-◌}
-use mathlib.Core.Path.{◌≡◌}
-use lib.ListN.{length, drop}
+-- The loop has passed whole chars: the text is UTF-8 exactly where what is left is.
+use Rattle.std.proofs.Common.{◌≡◌, length}
 use Rattle.text.specs.Utf8.{utf8}
 use Rattle.text.proofs.is_chars.Given as goal
 
-abbrev pub invariant-loop-i : goal.invariant-loop-i
-invariant-loop-i l = (l.i ≤ length l.s) × (utf8 l.s ≡ utf8 (drop l.i l.s))
+abbrev pub invariant-loop-n : goal.invariant-loop-n
+invariant-loop-n l = utf8 l.s ≡ utf8 l.rest
 
-abbrev pub decreases-loop-i : goal.decreases-loop-i
-decreases-loop-i l = length l.s - l.i
+abbrev pub decreases-loop-n : goal.decreases-loop-n
+decreases-loop-n l = length l.rest

@@ -1,5 +1,5 @@
 -- ASCII is UTF-8; any other text is read char by char.
-use mathlib.Core.Path.{sym, ◌∙◌}
+use Rattle.std.proofs.Common.{sym, ◌∙◌}
 use Rattle.text.proofs.Utf8Steps.{ascii-utf8}
 use Rattle.text.proofs.is_utf8.Goals as goal
 
