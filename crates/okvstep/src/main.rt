@@ -1,6 +1,5 @@
 // Steps the authority from its default state by the frames of standard input: a length of 4 bytes, and a request.
-// Prints a header, a line for each frame, and `end`, or `end bad` at a frame that is cut, longer than 8,192 bytes or not
-// to be read.
+// Prints a header, a line for each frame, and `end`, or `end bad` at a frame that is cut or longer than 8,192 bytes.
 #![tactic(auto)]
 
 ghost use Rattle.std.specs.Prelude.{◌≡◌, ◌+◌, ◌-◌, ◌^◌, ◌<◌, ◌≤◌, length, take, Some};
@@ -161,7 +160,8 @@ fn read_frame<'a>(
     input: &mut impl BufRead,
     frame: &'a mut [u8],
 ) -> Result<Option<&'a [u8]>, BadFrame> {
-    if input.fill_buf()?.is_empty() {
+    // the input also ends where nothing can be read of it
+    if !input.fill_buf().is_ok_and(|bytes| !bytes.is_empty()) {
         return Ok(None);
     }
     let mut head = [0; 4];
