@@ -28,6 +28,7 @@ use Rattle.image.proofs.ImagePartLaws.{rows-count}
 use Rattle.image.proofs.StoredLaws.{stored_in}
 use Rattle.image.specs.TableLaws.{table_in, tables_place, before, behind}
 use Rattle.image.proofs.TablePlaceLaws.{joined_with, size_is, count-is, table_here, around_here, table-starts, tables_with}
+use Rattle.image.specs.declared.Table.{Table}
 use Rattle.image.specs.declared.Contents.{Contents}
 use Rattle.machine.specs.Actions.{rejected, accepted, Rule, decide, LeasesExpired}
 use Rattle.machine.specs.Machine.{act, advance_lease_clock}
@@ -52,7 +53,7 @@ use Rattle.expiry.specs.Due.{due}
 use Rattle.floor.specs.Floors.{readable_for_window}
 use Rattle.edits.specs.PlaceLaws.{table_bounds}
 use Rattle.leases.specs.Oldest.{oldest_kept}
-use Rattle.leases.specs.Leased.{Leased, recomputed, small-leases}
+use Rattle.leases.specs.Leased.{leased, recomputed, small-leases}
 use Rattle.clock.specs.Due.{kept_bytes, ended_count, kept-rows, count-rows, oldest-rows, rows-leases, rows_whole, rows-by_id}
 use Rattle.clock.specs.Tallies.{tally_of}
 use Rattle.clock.specs.Parts.{BodyIs}
@@ -187,31 +188,34 @@ module _ {x : List ℕ} {c : Contents} {q : List ℕ} {a : ContextAt} {f : Fault
   pub advance-told : outcome_bytes x q (PublicationOutcome.LeasesExpired (ended_of c tick)) ≡ encode_outcome (LeasesExpired (expired s tick))
   advance-told = ap (λ (m : Map SnapshotLeaseToken). encode_outcome (LeasesExpired (map key_of (ended tick m)))) (leases-here ready.holds ready.formed tick)
 
-  pub advance-tables : {ps : List Part} → BodyIs tick x (tables_place c) (table_in leases c).at (table_in leases c).count (table_in jobs c).at ps
+  pub advance-tables : {ps : List Part} → BodyIs tick x c ps
       → gather_of x q ps ≡ joined (tables_of (clock_advanced s tick f.omit_lease_root_epoch))
   advance-tables g = g.gathers q ∙ tables-left ready.holds ready.formed tick
 
+  -- the leases that stay
+  abbrev table : (size count : ℕ) → Table
+  table size count = record { at = (table_in leases c).at; size = size; count = count }
+
   -- what the code has computed by the end
-  module _ {root-epoch policy readable epoch count : ℕ} {t : Tally} {d : Contents} (k : t ≡ tally_of tick policy x (table_in leases c).at (table_in leases c).count) (n : count ≡ (table_in leases c).count - t.ended)
-      (ld : Leased c a root-epoch policy readable tick epoch (record { at = (table_in leases c).at; size = t.size; count = count }) d)
+  module _ {root-epoch policy readable epoch count : ℕ} {t : Tally} (k : t ≡ tally_of tick policy x (table_in leases c).at (table_in leases c).count) (n : count ≡ (table_in leases c).count - t.ended)
     where
-      pub advance-small : Small d
+      pub advance-small : Small (leased c a root-epoch policy readable tick epoch (table t.size count))
       advance-small =
-          small-leases (small-held ready.formed ready.holds ready.short) ld
+          small-leases (small-held ready.formed ready.holds ready.short) a (table t.size count)
           (omega (arith, ap (λ (u : Tally). u.size) k, kept_low ready.holds ready.formed tick, (table_bounds ready.holds leases).0, ready.short))
 
       pub advance-shows : policy ≡ policy_for c.scalars.retention_window c.scalars.observed_commit_frontier c.scalars.policy_floor
           → epoch ≡ cond (eqb t.ended 0) c.scalars.lease_epoch (up c.scalars.lease_epoch)
           → root-epoch ≡ cond f.omit_lease_root_epoch c.scalars.root_intent_epoch (cond (eqb t.ended 0) c.scalars.root_intent_epoch (up c.scalars.root_intent_epoch))
           → readable ≡ readable_for_window c.scalars.retention_window t.oldest c.scalars.minimum_readable_version
-          → Shows x d (set_revision (position_of a.position) (clock_advanced s tick f.omit_lease_root_epoch))
+          → Shows x (leased c a root-epoch policy readable tick epoch (table t.size count)) (set_revision (position_of a.position) (clock_advanced s tick f.omit_lease_root_epoch))
       advance-shows p ee er r =
           let h = ready.holds in
           let w = ready.formed in
           let ids : List Text = expired s tick in
           let left : Map SnapshotLeaseToken = remove_all ids s.leases in
           let ended : t.ended ≡ length ids = ap (λ (u : Tally). u.ended) k ∙ count-here h w tick in
-          recomputed h left ld
+          recomputed h a left (table t.size count)
           (tables_with h leases left _ (ap (λ (u : Tally). u.size) k ∙ ap length (kept_here h w tick)) (n ∙ (λ i. count-is h leases i - ended i) ∙ sym (left-count h w tick)))
           (er ∙ (λ i. cond f.omit_lease_root_epoch (number_is h 2 i) ((ap (λ (j : ℕ). cond (eqb j 0) c.scalars.root_intent_epoch (up c.scalars.root_intent_epoch)) ended ∙ moved-is ids c.scalars.root_intent_epoch ∙ ap (moved ids) (number_is h 2)) i)))
           refl

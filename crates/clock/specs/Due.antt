@@ -28,7 +28,7 @@ use Rattle.image.specs.Tables.{lease_row, kept}
 use Rattle.machine.specs.Formed.{LeaseAt}
 use Rattle.machine.specs.Next.{ends_by, oldest}
 use Rattle.entries.proofs.Sized.{image_texts}
-use Rattle.expiry.specs.Due.{due, next-is, rest-low}
+use Rattle.expiry.specs.Due.{due, rest-low}
 use Rattle.requests.specs.Peek.{peek}
 use Rattle.requests.proofs.PeekLaws.{peek-dec}
 use Rattle.next.specs.Expired.{lease_in, ById, WholeId}
@@ -53,10 +53,10 @@ ended_count tick (r ∷ rs) = cond (due tick r) (suc (ended_count tick rs)) (end
 
 module _ (s : List ℕ) (p q : ℕ) (e : q ≡ place_of s (skip 0 (codes lease) (drop p s))) where
   pub row-size : p ≤ length s → q - p ≡ length (drop p s) - length (skip 0 (codes lease) (drop p s))
-  row-size h = omega (arith, next-is s p q e, rest-low s p q e, length-drop p s)
+  row-size h = omega (arith, e, rest-low s p q e, length-drop p s)
 
   pub next-high : p ≤ length s → p ≤ q
-  next-high h = omega (arith, next-is s p q e, rest-low s p q e, length-drop p s)
+  next-high h = omega (arith, e, rest-low s p q e, length-drop p s)
 
   pub row-length : p ≤ length s → length (row_of (drop p s)) ≡ q - p
   row-length h = simp length-take (omega (arith, row-size h, rest-low s p q e))

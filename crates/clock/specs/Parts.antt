@@ -8,7 +8,10 @@ use Rattle.parts.specs.Gather.{run, gather_of, empty, gather_empty, Filled, none
 use Rattle.fields.specs.Codes.{codes, skip}
 use Rattle.fields.specs.Walks.{place_of}
 use Rattle.tables.specs.Seek.{rows_at}
+use Rattle.image.specs.Layout.{leases, jobs}
 use Rattle.image.specs.Shapes.{lease}
+use Rattle.image.specs.TableLaws.{table_in, tables_place}
+use Rattle.image.specs.declared.Contents.{Contents}
 use Rattle.expiry.specs.Due.{due}
 use Rattle.next.specs.Added.{Added}
 use Rattle.clock.specs.Due.{row_of, kept_bytes, row-size}
@@ -37,8 +40,9 @@ module _ (tick : ℕ) where
 
 -- ---- the whole list
 
-pub record BodyIs (tick : ℕ) (s : List ℕ) (first at n after : ℕ) (ps : List Part) : Type 0 where
-  pub gathers : (q : List ℕ) → gather_of s q ps ≡ (run s first (at - first) ++ kept_bytes tick (rows_at (codes lease) n (drop at s))) ++ run s after (length s)
+pub record BodyIs (tick : ℕ) (s : List ℕ) (c : Contents) (ps : List Part) : Type 0 where
+  pub gathers : (q : List ℕ)
+      → gather_of s q ps ≡ (run s (tables_place c) ((table_in leases c).at - tables_place c) ++ kept_bytes tick (rows_at (codes lease) (table_in leases c).count (drop (table_in leases c).at s))) ++ run s (table_in jobs c).at (length s)
 
 -- the first of the parts, and no others yet
 abbrev pub body_start : (first size : ℕ) → List Part
@@ -48,24 +52,35 @@ pub start-filled : (first size : ℕ) → Filled 1 (body_start first size)
 start-filled first size = more (First first size) (none 65)
 
 -- the tables of the next image
-module _ (tick : ℕ) (s : List ℕ) (first at n after size : ℕ) (b : List Part) (h : n ≤ 64) (z : size ≡ at - first)
-    (ab : Added (kept_bytes tick) 1 s at n (body_start first size) b)
-  where
+module _ (tick : ℕ) (s : List ℕ) (c : Contents) where
+  abbrev first : ℕ
+  first = tables_place c
+
+  abbrev at : ℕ
+  at = (table_in leases c).at
+
+  abbrev n : ℕ
+  n = (table_in leases c).count
+
+  abbrev end : Part
+  end = First (table_in jobs c).at (length s)
+
+  module _ (size : ℕ) (b : List Part) (h : n ≤ 64) (z : size ≡ at - first) (ab : Added (kept_bytes tick) 1 s at n (body_start first size) b) where
     long : length b ≡ 66
     long = ab.long
 
     start-gathers : (q : List ℕ) → gather_of s q (body_start first size) ≡ run s first (at - first)
     start-gathers q = ap (λ (l : List ℕ). run s first size ++ l) (gather_empty s q 65) ∙ append-nil (run s first size) ∙ ap (run s first) z
 
-    pub body_is : BodyIs tick s first at n after (set b (n + 1) (First after (length s)))
+    pub body_is : BodyIs tick s c (set b (n + 1) end)
     body_is = record {
       gathers = λ q.
-          set_gather b (n + 1) (First after (length s)) ab.filled (omega (arith, long)) s q
-          ∙ ap (λ (l : List ℕ). l ++ run s after (length s))
+          set_gather b (n + 1) end ab.filled (omega (arith, long)) s q
+          ∙ ap (λ (l : List ℕ). l ++ run s (table_in jobs c).at (length s))
           (ab.gathers q ∙ ap (λ (l : List ℕ). l ++ kept_bytes tick (rows_at (codes lease) n (drop at s))) (start-gathers q));
     }
 
-    pub body_filled : Filled (n + 2) (set b (n + 1) (First after (length s)))
+    pub body_filled : Filled (n + 2) (set b (n + 1) end)
     body_filled =
         let y : n + 1 + 1 ≡ n + 2 = omega arith in
-        subst (λ (m : ℕ). Filled m (set b (n + 1) (First after (length s)))) y (set-filled b (n + 1) (First after (length s)) ab.filled (omega (arith, long)))
+        subst (λ (m : ℕ). Filled m (set b (n + 1) end)) y (set-filled b (n + 1) end ab.filled (omega (arith, long)))

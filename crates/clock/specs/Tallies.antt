@@ -1,5 +1,6 @@
 -- The leases counted: how many end, how many bytes stay, and the oldest version that stays.
-use Rattle.std.specs.Prelude.{ℕ, suc, ◌+◌, ◌-◌, ◌≤◌, ◌<◌, min, Bool, true, false, ◌≡◌, refl, take, drop}
+use Rattle.std.specs.Prelude.{ℕ, suc, ◌+◌, ◌-◌, ◌≤◌, ◌<◌, min, Bool, true, false, ◌≡◌, take, drop}
+use Rattle.std.specs.Int.{from_bool}
 use native.Mathlib.Omega.{arith}
 use Rattle.std.proofs.Math.Bool.{cond}
 use mathlib.Core.List.{List, [], ◌++◌}
@@ -19,8 +20,8 @@ use Rattle.clock.specs.declared.Tally.{Tally}
 
 abbrev pub tallied : Tally → Bool → (version len : ℕ) → Tally
 tallied t gone version len = record {
-  ended = cond gone (t.ended + 1) t.ended;
-  size = cond gone t.size (t.size + len);
+  ended = t.ended + from_bool gone;
+  size = t.size + cond gone 0 len;
   oldest = cond gone t.oldest (min version t.oldest);
 }
 
@@ -39,19 +40,19 @@ pub record Counted (tick floor : ℕ) (s : List ℕ) (at n i p : ℕ) (t : Tally
   pub size_is : (tally_of tick floor s at n).size ≡ t.size + length (kept_bytes tick (rows_at (codes lease) (n - i) (drop p s)))
   pub oldest_is : (tally_of tick floor s at n).oldest ≡ oldest_kept (due tick) t.oldest (rows_at (codes lease) (n - i) (drop p s))
 
-ended-step : (b : Bool) (n m : ℕ) → n + cond b (suc m) m ≡ cond b (n + 1) n + m
+ended-step : (b : Bool) (n m : ℕ) → n + cond b (suc m) m ≡ n + from_bool b + m
 ended-step true n m = omega arith
-ended-step false n m = refl
+ended-step false n m = omega arith
 
-size_step : (b : Bool) (n len : ℕ) (x y : List ℕ) → length x ≡ len → n + length (cond b [] x ++ y) ≡ cond b n (n + len) + length y
-size_step true n len x y h = refl
+size_step : (b : Bool) (n len : ℕ) (x y : List ℕ) → length x ≡ len → n + length (cond b [] x ++ y) ≡ n + cond b 0 len + length y
+size_step true n len x y h = omega arith
 size_step false n len x y h = omega (arith, length-append x y)
 
-ended-up : (b : Bool) (n i : ℕ) → n ≤ i → cond b (n + 1) n ≤ i + 1
+ended-up : (b : Bool) (n i : ℕ) → n ≤ i → n + from_bool b ≤ i + 1
 ended-up true n i h = omega arith
 ended-up false n i h = omega arith
 
-size-up : (b : Bool) (n len p q : ℕ) → n ≤ p → p ≤ q → len ≡ q - p → cond b n (n + len) ≤ q
+size-up : (b : Bool) (n len p q : ℕ) → n ≤ p → p ≤ q → len ≡ q - p → n + cond b 0 len ≤ q
 size-up true n len p q h k l = omega arith
 size-up false n len p q h k l = omega arith
 

@@ -1,9 +1,11 @@
 // The lease clock: every lease goes whose deadline is reached.
 #![tactic(auto)]
 
-ghost use Rattle.std.specs.Prelude.{cond, ◌≡◌, ◌+◌, ◌-◌, ◌≤◌, ◌<◌, eqb, length};
+ghost use Rattle.std.specs.Prelude.{cond, ◌≡◌, ◌+◌, ◌≤◌, ◌<◌, eqb, length};
 ghost use Rattle.refusals.specs.Numbers.{told};
 ghost use Rattle.parts.specs.Gather.{Filled};
+ghost use Rattle.image.specs.Layout.{leases};
+ghost use Rattle.image.specs.TableLaws.{table_in};
 ghost use Rattle.machine.specs.Next.{up};
 ghost use Rattle.machine.specs.Tests.{first_of};
 ghost use Rattle.requests.specs.declared.PublicationAction.{PublicationAction};
@@ -14,11 +16,12 @@ ghost use Rattle.clock.specs.Tallies.{tallied, tally_of};
 ghost use Rattle.clock.specs.Parts.{BodyIs};
 ghost use Rattle.clock.specs.Advance.{advance_tests};
 
-use image::{Contents, Table};
+use image::{Contents, Scalars, Table};
 use next::{Call, Change, LeasesExpired, PublicationOutcome};
 use parts::{Lengths, Part};
 use refusals::Refusal;
-use requests::{AdvanceLeaseClock, AuthorityContext, PublicationAuthorityFaults};
+use requests::AdvanceLeaseClock;
+use tables::TableRows;
 
 // How many leases end, how many bytes stay, and the smallest of a floor and the versions that stay.
 #[derive(Clone, Copy)]
@@ -28,36 +31,37 @@ struct Tally {
     oldest: u64,
 }
 
+// The length of a row where it stays.
+fn len_unless(gone: bool, n: usize) -> usize
+    ensures { result ≡ cond gone 0 n }
+{
+    if gone { 0 } else { n }
+}
+
 fn count_row(t: Tally, gone: bool, version: u64, len: usize) -> Tally
     requires { (t.ended < 65536) × (t.size + len < 65536) }
     ensures { result ≡ tallied t gone version len }
 {
-    let oldest = leases::older(gone, version, t.oldest);
-    if gone {
-        return Tally {
-            ended: t.ended + 1,
-            size: t.size,
-            oldest,
-        };
-    }
     Tally {
-        ended: t.ended,
-        size: t.size + len,
-        oldest,
+        ended: t.ended + gone as usize,
+        size: t.size + len_unless(gone, len),
+        oldest: leases::older(gone, version, t.oldest),
     }
 }
 
-fn count_rows(s: &[u8], at: usize, n: usize, tick: u64, floor: u64) -> Tally
-    requires { (n ≤ 64) × (length s.now ≤ 65535) }
-    ensures { result ≡ tally_of tick floor s.now at n }
+// By place: a lease is as long as from its place to that of the next.
+fn count_rows(leases: TableRows<'_>, tick: u64, floor: u64) -> Tally
+    requires { (leases.left ≤ 64) × (length leases.bytes.now ≤ 65535) }
+    ensures { result ≡ tally_of tick floor leases.entry.bytes.now leases.entry.at leases.entry.left }
 {
-    let mut p = fields::within(s, at);
+    let s = leases.bytes;
+    let mut p = fields::within(s, leases.at);
     let mut t = Tally {
         ended: 0,
         size: 0,
         oldest: floor,
     };
-    for _ in 0..n {
+    for _ in 0..leases.left {
         let q = tables::skip_record(&image::LEASE, s, p);
         t = count_row(
             t,
@@ -70,20 +74,14 @@ fn count_rows(s: &[u8], at: usize, n: usize, tick: u64, floor: u64) -> Tally
     t
 }
 
-// The length of a part that is there or not.
-fn len_unless(gone: bool, n: usize) -> usize
-    ensures { result ≡ cond gone 0 n }
+// A part for each lease, with its bytes where it stays; by place, as above.
+fn stays(parts: &mut [Part], leases: TableRows<'_>, tick: u64)
+    requires { (leases.left ≤ 64) × (length parts.old ≡ 66) × Filled 1 parts.old }
+    ensures { Added (kept_bytes tick) 1 leases.entry.bytes.now leases.entry.at leases.entry.left parts.old parts.new }
 {
-    if gone { 0 } else { n }
-}
-
-// A part for each row, with its bytes where it stays.
-fn stays(parts: &mut [Part], s: &[u8], at: usize, n: usize, tick: u64)
-    requires { (n ≤ 64) × (length parts.old ≡ 66) × Filled 1 parts.old }
-    ensures { Added (kept_bytes tick) 1 s.now at n parts.old parts.new }
-{
-    let mut p = fields::within(s, at);
-    for i in 0..n {
+    let s = leases.bytes;
+    let mut p = fields::within(s, leases.at);
+    for i in 0..leases.left {
         let q = tables::skip_record(&image::LEASE, s, p);
         let gone = expiry::is_due(s, p, tick);
         parts[i + 1] = Part::First(p, len_unless(gone, q.saturating_sub(p)));
@@ -91,16 +89,20 @@ fn stays(parts: &mut [Part], s: &[u8], at: usize, n: usize, tick: u64)
     }
 }
 
-// The tables of the next image: from the first up to the leases, the leases that stay, and the tables after them.
-fn body_parts(s: &[u8], first: usize, at: usize, n: usize, tick: u64, after: usize) -> [Part; 66]
-    requires { n ≤ 64 }
-    ensures body_is { BodyIs tick s.now first at n after result }
-    ensures filled { Filled (n + 2) result }
+// The tables of the next image: from the first up to the leases, the leases that stay, and the tables after them. No heap: an array
+// of the most parts that there can be, with 64 leases, and empty ones behind those that are used.
+fn body_parts(call: &Call<'_>, tick: u64) -> [Part; 66]
+    requires { (table_in leases call.now.contents.now).count ≤ 64 }
+    ensures body_is { BodyIs tick call.now.image.now call.now.contents.now result }
+    ensures filled { Filled ((table_in leases call.now.contents.now).count + 2) result }
 {
+    let tables = &call.contents.tables;
+    let first = tables[image::INTENTS].at;
+    let leases = tables[image::LEASES];
     let mut parts = [Part::EMPTY; 66];
-    parts[0] = Part::First(first, at.saturating_sub(first));
-    stays(&mut parts, s, at, n, tick);
-    parts[n + 1] = Part::First(after, s.len());
+    parts[0] = Part::First(first, leases.at.saturating_sub(first));
+    stays(&mut parts, call.rows(image::LEASES), tick);
+    parts[leases.count + 1] = Part::First(tables[image::JOBS].at, call.image.len());
     parts
 }
 
@@ -117,8 +119,9 @@ fn root_after(omit: bool, ended: usize, n: u64) -> u64
     if omit { n } else { up_if(ended, n) }
 }
 
-fn advance_refusal(a: AdvanceLeaseClock, clock: u64) -> Result<(), Refusal>
-    ensures { told result ≡ first_of (advance_tests a clock) }
+#[tactic(auto, unfolding(machine::specs::Tests::first_of))]
+fn advance_refusal(a: &AdvanceLeaseClock, clock: u64) -> Result<(), Refusal>
+    ensures { told result ≡ first_of (advance_tests a.now clock) }
 {
     if a.expected_tick != clock {
         return Err(Refusal::LeaseClockMismatch);
@@ -130,69 +133,56 @@ fn advance_refusal(a: AdvanceLeaseClock, clock: u64) -> Result<(), Refusal>
 }
 
 pub fn advance_lease_clock(
-    call: Call<'_>,
-    a: AdvanceLeaseClock,
+    call: &Call<'_>,
+    a: &AdvanceLeaseClock,
     next: &mut [u8],
     outcome: &mut [u8],
 ) -> Result<Lengths, Refusal>
-    requires { Asks call (PublicationAction.AdvanceLeaseClock a) }
-    ensures { Answers call.entry next.old outcome.old result next.new outcome.new }
+    requires { Asks call.now (PublicationAction.AdvanceLeaseClock a.now) }
+    ensures { Answers call.now next.old outcome.old result next.new outcome.new }
 {
     let n = call.contents.scalars;
-    let tables = call.contents.tables;
-    let leases = tables[image::LEASES];
     advance_refusal(a, n.lease_clock_tick)?;
     let w = n.retention_window;
     let policy = floor::policy_for(w, n.observed_commit_frontier, n.policy_floor);
-    let t = count_rows(call.image, leases.at, leases.count, a.next_tick, policy);
-    let epoch = up_if(t.ended, n.lease_epoch);
-    let root_epoch = root_after(
-        call.faults.omit_lease_root_epoch,
-        t.ended,
-        n.root_intent_epoch,
-    );
-    let readable = floor::readable_for(w, t.oldest, n.minimum_readable_version);
-    let table = Table {
-        at: leases.at,
+    let t = count_rows(call.rows(image::LEASES), a.next_tick, policy);
+    let mut tables = call.contents.tables;
+    let leases = tables[image::LEASES];
+    tables[image::LEASES] = Table {
         size: t.size,
         count: leases.count.saturating_sub(t.ended),
+        ..leases
     };
-    let d = leases::with_leases(
-        call.contents,
-        call.context,
-        root_epoch,
-        policy,
-        readable,
-        a.next_tick,
-        epoch,
-        table,
-    );
-    let intents = tables[image::INTENTS];
-    let jobs = tables[image::JOBS];
-    let body = body_parts(
-        call.image,
-        intents.at,
-        leases.at,
-        leases.count,
-        a.next_tick,
-        jobs.at,
-    );
+    let contents = Contents {
+        scalars: Scalars {
+            term: call.context.position.term,
+            index: call.context.position.index,
+            root_intent_epoch: root_after(
+                call.faults.omit_lease_root_epoch,
+                t.ended,
+                n.root_intent_epoch,
+            ),
+            policy_floor: policy,
+            minimum_readable_version: floor::readable_for(w, t.oldest, n.minimum_readable_version),
+            lease_clock_tick: a.next_tick,
+            lease_epoch: up_if(t.ended, n.lease_epoch),
+            ..n
+        },
+        tables,
+        ..*call.contents
+    };
+    let body = body_parts(call, a.next_tick);
     let told = PublicationOutcome::LeasesExpired(LeasesExpired {
         at: leases.at,
         count: leases.count,
         tick: a.next_tick,
     });
-    let used = leases.count + 2;
-    next::emit(
-        call,
-        Change {
-            from: call.image,
-            contents: d,
-            body: &body[..used],
-            stored: call.image,
-            told,
-        },
-        next,
-        outcome,
-    )
+    let change = Change {
+        from: call.image,
+        contents: &contents,
+        body: &body[..leases.count + 2],
+        stored: call.image,
+        told: &told,
+    };
+    next::emit(call, &change, next, outcome)
 }

@@ -48,31 +48,19 @@ fn configure_refusal(root: &[u8], known: bool, expected: bool, jobs: usize) -> R
 }
 
 pub fn configure_collection_root(
-    call: Call<'_>,
-    a: ConfigureCollectionRoot,
+    call: &Call<'_>,
+    a: &ConfigureCollectionRoot,
     next: &mut [u8],
     outcome: &mut [u8],
 ) -> Result<Lengths, Refusal>
-    requires { Asks call (PublicationAction.ConfigureCollectionRoot a) }
-    ensures { Answers call.entry next.old outcome.old result next.new outcome.new }
+    requires { Asks call.now (PublicationAction.ConfigureCollectionRoot a.now) }
+    ensures { Answers call.now next.old outcome.old result next.new outcome.new }
 {
+    let root = requests::text_of(call.request, a.destination_root);
+    let known = reserved::located(call.rows(image::ROOTS), root);
     let n = call.contents.scalars;
-    let old = n.collection_root;
-    let expected = a.expected;
-    let t = a.destination_root;
-    let tables = call.contents.tables;
-    let roots = tables[image::ROOTS];
-    let jobs = tables[image::JOBS];
-    let root = requests::text_of(call.request, t);
-    let known = reserved::located(
-        &image::REFERENCE_ROW,
-        call.image,
-        roots.at,
-        roots.count,
-        root,
-    );
-    let same = same_maybe(call.image, old, call.request, expected);
-    configure_refusal(root, known, same, jobs.count)?;
+    let same = same_maybe(call.image, n.collection_root, call.request, a.expected);
+    configure_refusal(root, known, same, call.contents.tables[image::JOBS].count)?;
     // the root is the last field of the request
     let at = TextAt {
         at: call.request.len().saturating_sub(root.len()),
@@ -83,24 +71,18 @@ pub fn configure_collection_root(
             collection_root: Some(at),
             ..n
         },
-        ..call.contents
+        ..*call.contents
     };
-    let raised = next::raised(rooted, call.context.position);
-    let first = tables[image::INTENTS];
-    let body = [Part::First(first.at, call.image.len())];
-    let told = PublicationOutcome::Applied;
-    next::emit(
-        call,
-        Change {
-            from: call.request,
-            contents: raised,
-            body: &body,
-            stored: call.image,
-            told,
-        },
-        next,
-        outcome,
-    )
+    let raised = next::raised(&rooted, call.context.position);
+    let first = call.contents.tables[image::INTENTS];
+    let change = Change {
+        from: call.request,
+        contents: &raised,
+        body: &[Part::First(first.at, call.image.len())],
+        stored: call.image,
+        told: &PublicationOutcome::Applied,
+    };
+    next::emit(call, &change, next, outcome)
 }
 
 // The first test that refuses to give a job up. No row is stored where its id is not found.
@@ -121,43 +103,28 @@ fn abandon_refusal(stored: &[u8], shown: &[u8], owner: u64, generation: u64) -> 
 }
 
 pub fn abandon_collection(
-    call: Call<'_>,
-    a: CollectionJobToken,
+    call: &Call<'_>,
+    a: &CollectionJobToken,
     next: &mut [u8],
     outcome: &mut [u8],
 ) -> Result<Lengths, Refusal>
-    requires { Asks call (PublicationAction.AbandonCollection a) }
-    ensures { Answers call.entry next.old outcome.old result next.new outcome.new }
+    requires { Asks call.now (PublicationAction.AbandonCollection a.now) }
+    ensures { Answers call.now next.old outcome.old result next.new outcome.new }
 {
-    let t = a.job_id;
-    let tables = call.contents.tables;
-    let jobs = tables[image::JOBS];
-    let id = requests::text_of(call.request, t);
-    let place = tables::locate(&image::JOB, call.image, jobs.at, jobs.count, id);
+    let id = requests::text_of(call.request, a.job_id);
+    let place = call.locate(image::JOBS, id);
     let stored = tables::row(call.image, place);
     // the token is all of the action
     let shown = parts::clip(call.request, 27, call.request.len());
     abandon_refusal(stored, shown, a.owner_generation, call.context.generation)?;
-    let left = edits::after_remove(jobs, place);
+    let tables = call.contents.tables;
     let mut d = next::raised(call.contents, call.context.position);
-    d.tables[image::JOBS] = left;
+    d.tables[image::JOBS] = edits::after_remove(tables[image::JOBS], place);
     let first = tables[image::INTENTS];
     let ahead = place.start.saturating_sub(first.at);
     let body = [
         Part::First(first.at, ahead),
         Part::First(place.end, call.image.len()),
     ];
-    let told = PublicationOutcome::Applied;
-    next::emit(
-        call,
-        Change {
-            from: call.image,
-            contents: d,
-            body: &body,
-            stored: call.image,
-            told,
-        },
-        next,
-        outcome,
-    )
+    next::emit_applied(call, &d, &body, next, outcome)
 }

@@ -11,7 +11,7 @@ use Rattle.fields.specs.Format.{◌▹◌, El, enc, enc_text, all}
 use Rattle.fields.specs.Codes.{codes, skip}
 use Rattle.fields.specs.Rows.{text_here}
 use Rattle.fields.proofs.RowLaws.{text-there}
-use Rattle.tables.specs.Seek.{rows_at}
+use Rattle.tables.specs.Seek.{rows_at, rows_left}
 use Rattle.tables.specs.SeekLaws.{tails, rows_are}
 use Rattle.image.specs.Shapes.{u64, key, job, job_parts, position_parts, reference_parts, before_root, before_namespace}
 use Rattle.image.specs.Layout.{jobs, Formed}
@@ -22,7 +22,10 @@ use Rattle.image.specs.TableLaws.{table_in, behind}
 use Rattle.image.proofs.TablePlaceLaws.{count-is, table_here}
 use Rattle.image.specs.declared.Contents.{Contents}
 use Rattle.machine.specs.Machine.{conflicts}
+use Rattle.tables.specs.declared.TableRows.{TableRows}
 use Rattle.next.specs.Peeks.{skip-to}
+use Rattle.next.specs.Rows.{RowsOf, table_of, rows_as}
+use Rattle.next.specs.declared.Call.{Call}
 
 abbrev conflicts_of : (root namespace old-root old : Text) → Bool
 conflicts_of root namespace old-root old = same old-root root || same old namespace || starts_with old namespace || starts_with namespace old
@@ -30,10 +33,10 @@ conflicts_of root namespace old-root old = same old-root root || same old namesp
 unfoldable pub conflicts_at : Text → Text → List ℕ → Bool
 conflicts_at root namespace l = conflicts_of root namespace (text_here (skip 0 (codes before_root) l)) (text_here (skip 0 (codes before_namespace) l))
 
--- by the texts as they were cut out of a request
-pub conflict_told : (root namespace root' namespace' : Text) (rows : List (List ℕ)) (b : Bool) → root' ≡ root → namespace' ≡ namespace
-    → b ≡ any (conflicts_at root' namespace') rows → any (conflicts_at root namespace) rows ≡ b
-conflict_told root namespace root' namespace' rows b e k h = (λ i. any (conflicts_at (sym e i) (sym k i)) rows) ∙ sym h
+-- by the texts as they were cut out of a request, and the jobs as a call gave them
+pub conflict_told : {call : Call} {r : TableRows} → RowsOf call 5 r → (root namespace root' namespace' : Text) (b : Bool) → root' ≡ root → namespace' ≡ namespace
+    → b ≡ any (conflicts_at root' namespace') (rows_left r) → any (conflicts_at root namespace) (rows_at (codes job) (table_of call 5).count (drop (table_of call 5).at call.image.now)) ≡ b
+conflict_told given root namespace root' namespace' b e k h = (λ i. any (conflicts_at (sym e i) (sym k i)) (sym (rows_as given) i)) ∙ sym h
 
 -- ---- the jobs of a state
 

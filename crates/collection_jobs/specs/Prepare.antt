@@ -2,7 +2,7 @@
 use Rattle.parts.specs.declared.Part.TheVariants.{First, Second, Number}
 use Prim.Native.Nat.{ℕ, suc, ◌+◌, ◌-◌, ◌≤◌}
 use Rattle.std.proofs.Common.{arith, ◌∙◌, subst, length-drop, ltb-true, ltb-false}
-use Rattle.std.specs.Prelude.{Bool, cond, ◌&&◌, ◌≡◌, leb, eqb, drop, set, Option, Some}
+use Rattle.std.specs.Prelude.{Bool, true, false, cond, ◌&&◌, ◌≡◌, leb, eqb, drop, set, Option, Some}
 use Rattle.std.proofs.Math.Bool.{not}
 use mathlib.Core.List.{List, [], ◌∷◌, ◌++◌, append_assoc, append-nil}
 use Rattle.std.proofs.Math.Path.{refl, sym, ap}
@@ -59,6 +59,13 @@ use Rattle.collection_jobs.specs.Tests.{prepare_tests}
 
 five : (a b c d e z : List ℕ) → (a ++ (b ++ (c ++ (d ++ e)))) ++ z ≡ a ++ (b ++ (c ++ (d ++ (e ++ z))))
 five a b c d e z = simp append_assoc
+
+-- one of two numbers, as it was chosen
+pub chosen_first : {b : Bool} {m k : ℕ} (n : ℕ) → b ≡ true → k ≡ m → k ≡ cond b m n
+chosen_first {b} {m} n e h = h ∙ sym (ap (λ (t : Bool). cond t m n) e)
+
+pub chosen_second : {b : Bool} {n k : ℕ} (m : ℕ) → b ≡ false → k ≡ n → k ≡ cond b m n
+chosen_second {b} {n} m e h = h ∙ sym (ap (λ (t : Bool). cond t m n) e)
 
 abbrev after_floor : Field
 after_floor = name ▹ u64 ▹ u64 ▹ key

@@ -33,6 +33,8 @@ token-shown q end n shown e k h = h ∙ ap (λ (m : ℕ). take m (drop 27 q)) (k
 pub manifests_told : (q : List ℕ) (end : ℕ) (id id' : Text) (b : Bool) → end ≡ token_end q → id' ≡ id → b ≡ same_manifest q end (length id' + 60) → same_manifest q (token_end q) (length id + 60) ≡ b
 manifests_told q end id id' b e k h = (λ i. same_manifest q (sym e i) (length (sym k i) + 60)) ∙ sym h
 
+pub ruleset receipt_steps = (token-shown, manifests_told)
+
 -- of the receipt by itself and by its job's row
 abbrev pub receipt_tests : List ℕ → ContextAt → ReceiptAt → (stored : List ℕ) → List Refusal
 receipt_tests q y a stored =

@@ -12,7 +12,7 @@ ghost use Rattle.collection_publish.specs.Tests.{same_manifest, receipt_tests, p
 use next::{Call, Change, PublicationOutcome};
 use parts::{Lengths, Part};
 use refusals::Refusal;
-use requests::{AuthorityContext, CollectionReceipt};
+use requests::CollectionReceipt;
 
 // Whether the manifests at two places of the request are the same.
 #[tactic(auto, unfolding(crate::specs::Tests::same_manifest))]
@@ -28,98 +28,82 @@ fn same_manifest(request: &[u8], a: usize, b: usize) -> bool
 }
 
 // The first test of a receipt by itself and by its job that refuses it. No row is stored where the job is not found.
-#[tactic(auto, unfolding(machine::specs::Tests::first_of))]
-fn receipt_refusal(
-    request: &[u8],
-    x: AuthorityContext,
-    a: CollectionReceipt,
-    stored: &[u8],
-) -> Result<(), Refusal>
-    requires { length (text_of request.now a.token.job_id) ≤ 64 }
-    ensures { told result ≡ first_of (receipt_tests request.now x a stored.now) }
+#[tactic(auto, using(crate::specs::Tests::receipt_steps), unfolding(machine::specs::Tests::first_of))]
+fn receipt_refusal(call: &Call<'_>, a: &CollectionReceipt, stored: &[u8]) -> Result<(), Refusal>
+    requires { length (text_of call.now.request.now a.now.token.job_id) ≤ 64 }
+    ensures { told result ≡ first_of (receipt_tests call.now.request.now call.now.context a.now stored.now) }
 {
-    let token = a.token;
-    let t = token.job_id;
-    if !records::valid_receipt(request, a) {
+    if !records::valid_receipt(call.request, *a) {
         return Err(Refusal::InvalidRequest);
     }
-    let id = requests::text_of(request, t);
+    let id = requests::text_of(call.request, a.token.job_id);
     // the token stands first, and its manifest after id, generation, position and floor
-    let end = tables::skip_record(&image::JOB, request, 27);
-    if same_manifest(request, end, id.len() + 60) {
+    let end = tables::skip_record(&image::JOB, call.request, 27);
+    if same_manifest(call.request, end, id.len() + 60) {
         return Err(Refusal::InvalidRequest);
     }
     if stored.is_empty() {
         return Err(Refusal::CollectionJobMissing);
     }
-    if !text::same(stored, parts::clip(request, 27, end.saturating_sub(27))) {
+    if !text::same(
+        stored,
+        parts::clip(call.request, 27, end.saturating_sub(27)),
+    ) {
         return Err(Refusal::CollectionReceiptMismatch);
     }
-    if token.owner_generation != x.generation {
+    if a.token.owner_generation != call.context.generation {
         return Err(Refusal::CrossGenerationIntent);
     }
     Ok(())
 }
 
 // The first test that refuses a receipt.
+#[tactic(auto, unfolding(machine::specs::Tests::first_of))]
 fn publish_refusal(
-    call: Call<'_>,
-    a: CollectionReceipt,
+    call: &Call<'_>,
+    a: &CollectionReceipt,
     stored: &[u8],
     stands: bool,
 ) -> Result<(), Refusal>
-    requires { length (text_of call.request.now a.token.job_id) ≤ 64 }
-    ensures { told result ≡ first_of (publish_tests call.entry.image.now call.entry.contents call.entry.request.now call.entry.context call.entry.faults a stored.now stands) }
+    requires { length (text_of call.now.request.now a.now.token.job_id) ≤ 64 }
+    ensures { told result ≡ first_of (publish_tests call.now.image.now call.now.contents.now call.now.request.now call.now.context call.now.faults a.now stored.now stands) }
 {
-    let tables = call.contents.tables;
-    let reservations = tables[image::RESERVATIONS];
-    let token = a.token;
-    let keys = a.object_keys;
-    let u = token.destination_root;
-    receipt_refusal(call.request, call.context, a, stored)?;
+    receipt_refusal(call, a, stored)?;
     collection_jobs::stale(
-        call.image,
-        call.contents,
-        call.request,
-        call.faults.ignore_collection_range_epoch,
-        token.range_map_epoch,
-        u,
-        token.expected_collected_through,
+        call,
+        a.token.range_map_epoch,
+        a.token.destination_root,
+        a.token.expected_collected_through,
     )?;
     if collection_jobs::other_input(call.faults.ignore_collection_input_root, stands) {
         return Err(Refusal::RootCompareFailed);
     }
-    if reserved::is_reserved(false, call.image, reservations, call.request, keys.at) {
+    let reservations = call.contents.tables[image::RESERVATIONS];
+    if reserved::is_reserved(
+        false,
+        call.image,
+        reservations,
+        call.request,
+        a.object_keys.at,
+    ) {
         return Err(Refusal::ObjectDeletionReserved);
     }
     Ok(())
 }
 
 pub fn publish_collection(
-    call: Call<'_>,
-    a: CollectionReceipt,
+    call: &Call<'_>,
+    a: &CollectionReceipt,
     next: &mut [u8],
     outcome: &mut [u8],
 ) -> Result<Lengths, Refusal>
-    requires { Asks call (PublicationAction.PublishCollection a) }
-    ensures { Answers call.entry next.old outcome.old result next.new outcome.new }
+    requires { Asks call.now (PublicationAction.PublishCollection a.now) }
+    ensures { Answers call.now next.old outcome.old result next.new outcome.new }
 {
-    let tables = call.contents.tables;
-    let roots = tables[image::ROOTS];
-    let jobs = tables[image::JOBS];
-    let token = a.token;
-    let t = token.job_id;
-    let u = token.destination_root;
-    let id = requests::text_of(call.request, t);
-    let root = requests::text_of(call.request, u);
-    let spot = tables::locate(
-        &image::REFERENCE_ROW,
-        call.image,
-        roots.at,
-        roots.count,
-        root,
-    );
-    let gone = tables::locate(&image::JOB, call.image, jobs.at, jobs.count, id);
+    let id = requests::text_of(call.request, a.token.job_id);
+    let root = requests::text_of(call.request, a.token.destination_root);
+    let spot = call.locate(image::ROOTS, root);
+    let gone = call.locate(image::JOBS, id);
     let held = tables::row(call.image, spot);
     let stored = tables::row(call.image, gone);
     let stands = collection_jobs::input_stands(held, root, call.request, id.len() + 60);
@@ -129,33 +113,28 @@ pub fn publish_collection(
     let start = tables::skip_record(&image::JOB, call.request, 27);
     let size = tables::skip_record(&image::REFERENCE, call.request, start).saturating_sub(start);
     let name = root.len() + 1;
-    let more = edits::after_insert(roots, spot, name + size);
-    let left = edits::after_remove(jobs, gone);
+    let tables = call.contents.tables;
+    let more = edits::after_insert(tables[image::ROOTS], spot, name + size);
+    let left = edits::after_remove(tables[image::JOBS], gone);
     let mut d = next::raised(call.contents, call.context.position);
-    d.scalars.physically_collected_through = token.frozen_floor;
+    d.scalars.physically_collected_through = a.token.frozen_floor;
     d.tables[image::ROOTS] = more;
     d.tables[image::JOBS] = left;
     let begin = tables[image::INTENTS];
     let ahead = spot.start.saturating_sub(begin.at);
     let between = gone.start.saturating_sub(spot.end);
-    let body = [
-        Part::First(begin.at, ahead),
-        Part::Second(root_at, name),
-        Part::Second(start, size),
-        Part::First(spot.end, between),
-        Part::First(gone.end, call.image.len()),
-    ];
-    let told = PublicationOutcome::CollectionPublished(a);
-    next::emit(
-        call,
-        Change {
-            from: call.image,
-            contents: d,
-            body: &body,
-            stored: call.image,
-            told,
-        },
-        next,
-        outcome,
-    )
+    let change = Change {
+        from: call.image,
+        contents: &d,
+        body: &[
+            Part::First(begin.at, ahead),
+            Part::Second(root_at, name),
+            Part::Second(start, size),
+            Part::First(spot.end, between),
+            Part::First(gone.end, call.image.len()),
+        ],
+        stored: call.image,
+        told: &PublicationOutcome::CollectionPublished(*a),
+    };
+    next::emit(call, &change, next, outcome)
 }

@@ -1,6 +1,6 @@
 -- RetireDelete over bytes: from what the code has found to the rule's answer, and to the next image.
 use Rattle.parts.specs.declared.Part.TheVariants.{First}
-use Rattle.std.specs.Prelude.{ℕ, ◌-◌, List, [], ◌∷◌, ◌++◌, Bool, true, false, ◌&&◌, ◌||◌, ◌≡◌, refl, length, take, drop, set}
+use Rattle.std.specs.Prelude.{ℕ, ◌-◌, List, [], ◌∷◌, ◌++◌, Bool, true, false, ◌&&◌, ◌||◌, ◌≡◌, refl, length, drop, set}
 use Rattle.std.proofs.Common.{arith, append_assoc, ◌∙◌, eqb-true}
 use Rattle.std.proofs.Math.Bool.{not}
 use Rattle.std.proofs.Math.Path.{ap}
@@ -90,21 +90,24 @@ module _ {x : List ℕ} {c : Contents} {q : List ℕ} {u : AuthorityContext} {g 
     abbrev asked : Rule
     asked = act st (action_of q (PublicationAction.RetireDelete a)) (context_of u) (faults_of g)
 
-    module _ (row shown plan : List ℕ) (row_is : row ≡ run x place.start (place.end - place.start)) (shown-is : shown ≡ take (length q) (drop 27 q)) (plan-is : plan ≡ text_of q a.plan_id) where
+    module _ (row : List ℕ) (row_is : row ≡ run x place.start (place.end - place.start)) where
       abbrev sought : Seen
       sought = seek (codes permit) (table_in reservations c).count k (drop (table_in reservations c).at x)
 
       stored : (length row ≡ 0 → ⊥) → Held ready.holds ready.formed reservations there
       stored h = held ready.holds ready.formed reservations there (row_some x sought place found row row_is h)
 
+      abbrev shown : List ℕ
+      shown = run q 27 (length q)
+
       shown-here : shown ≡ enc permit (permit_parts asked_permit)
-      shown-here = shown-is ∙ run-rest q (enc permit (permit_parts asked_permit)) 27 (length q) (fields_here _ q ready.request_is) (omega arith)
+      shown-here = run-rest q (enc permit (permit_parts asked_permit)) 27 (length q) (fields_here _ q ready.request_is) (omega arith)
 
       abbrev weak : Bool
       weak = g.retire_by_plan_key_only
 
       abbrev tests : List Refusal
-      tests = retire_tests row shown plan k a.owner_generation u.generation weak
+      tests = retire_tests row shown asked_permit.plan_id asked_permit.key a.owner_generation u.generation weak
 
       tests_agree : Agrees tests asked
       unfolding act retire_delete
@@ -112,8 +115,8 @@ module _ {x : List ℕ} {c : Contents} {q : List ℕ} {u : AuthorityContext} {g 
         λ e. missing ready.holds ready.formed reservations there (row-none x sought place found row row_is (eqb-true _ _ e)),
         λ e.
             let v = stored (eqb-false _ _ e) in
-            let m : matches_of weak row shown plan k ≡ matched weak v.value asked_permit =
-            (λ i. matches_of weak ((row_is ∙ v.row) i) (shown-here i) (plan-is i) (key-is i)) ∙ matches_is weak v.value asked_permit v.within ready.within.1 in
+            let m : matches_of weak row shown asked_permit.plan_id asked_permit.key ≡ matched weak v.value asked_permit =
+            (λ i. matches_of weak ((row_is ∙ v.row) i) (shown-here i) asked_permit.plan_id asked_permit.key) ∙ matches_is weak v.value asked_permit v.within ready.within.1 in
             (v.value, v.looked, (refl then ap not m ∙ not_either (permit_eq v.value asked_permit) _ then tt)),
       )
 

@@ -22,18 +22,12 @@ pub fn after_insert(t: Table, p: Place, bytes: usize) -> Table
     ensures { result ≡ after_insert t p bytes }
 {
     let size = t.size.saturating_sub(p.end.saturating_sub(p.start)) + bytes;
-    if p.start < p.end {
-        return Table {
-            at: t.at,
-            size,
-            count: t.count,
-        };
-    }
-    Table {
-        at: t.at,
-        size,
-        count: t.count + 1,
-    }
+    let count = if p.start < p.end {
+        t.count
+    } else {
+        t.count + 1
+    };
+    Table { size, count, ..t }
 }
 
 // The table without the row at a place, where there is one.
@@ -41,16 +35,7 @@ pub fn after_remove(t: Table, p: Place) -> Table
     ensures { result ≡ after_remove t p }
 {
     let size = t.size.saturating_sub(p.end.saturating_sub(p.start));
-    if p.start < p.end {
-        return Table {
-            at: t.at,
-            size,
-            count: t.count.saturating_sub(1),
-        };
-    }
-    Table {
-        at: t.at,
-        size,
-        count: t.count,
-    }
+    let fewer = t.count.saturating_sub(1);
+    let count = if p.start < p.end { fewer } else { t.count };
+    Table { size, count, ..t }
 }

@@ -1,14 +1,13 @@
 -- A walk over a slice from a position: where it ends, or the first fault.
-use Rattle.std.specs.Prelude.{ℕ, zero, suc, ◌+◌, ◌-◌, ◌≤◌, ◌<◌, min, Bool, true, false, List, [], ◌∷◌, ◌≡◌, refl, length, take, drop, leb, Option, Ok, Err}
+use Rattle.std.specs.Prelude.{ℕ, zero, suc, ◌+◌, ◌-◌, ◌≤◌, ◌<◌, min, Bool, true, false, List, [], ◌∷◌, ◌≡◌, refl, length, take, drop, leb, Option, Ok}
 use Rattle.std.proofs.Common.{arith, sym, ap, ◌∙◌, length-drop, take_all, drop_of_length-le, drop-drop, leb-true, leb-false}
 use Rattle.fields.specs.Format.{Malformed, Res, ok, bad, bind, many, read_kind, read_text, rows, itself, read_set}
 use Rattle.fields.proofs.FormatLaws.{never}
 use Rattle.fields.specs.Codes.{read_flag, step, advance, walk, hop, hops, hop_set}
 use Rattle.fields.proofs.CodeLaws.{many-rest, kind-rest, text-rest, texts_rest, set_rest}
 use Rattle.fields.specs.declared.Code.{Code}
-use Rattle.fields.specs.declared.Hop.{Hop}
 use Rattle.fields.specs.declared.Code.TheVariants.{Number, Kind, Text, Keys, Maybe}
-use Rattle.fields.specs.Walks.{Ended, Leaves, Rest, Stepped, place_of, hop_of, walk_of}
+use Rattle.fields.specs.Walks.{Ended, Leaves, Rest, place_of, walk_of}
 
 -- ---- places
 
@@ -125,20 +124,3 @@ ended s p e (ok v r) h l q =
     let a : Rest (drop p s) r = l.rest v r refl in
     let z : place_of s r ≡ e = cc in
     record { v = v; is = ap (ok v) (sym (rest-place (rest_trans (rest-drop p s) a)) ∙ ap (λ (j : ℕ). drop j s) z); low = rw z at (rest-low s p r h a); high = omega arith }
-
-pub faulted : {A : Type 0} (s : List ℕ) (m : Res A) (x : ℕ) → walk_of s m ≡ Err x → m ≡ bad x
-faulted s (bad y) x q = let e : y ≡ x = cc in ap bad e
-faulted s (ok v r) x q = let z : ◌≡◌ {A = ℕ} 0 1 = cc in absurd (omega arith)
-
-pub stepped : (s : List ℕ) (p : ℕ) (h : Hop) (m : Res ℕ) → p ≤ length s → Leaves (drop p s) m → hop_of s m ≡ Ok h → Stepped s m p h.at h.over
-stepped s p h (bad x) b l q = let z : ◌≡◌ {A = ℕ} 0 1 = cc in absurd (omega arith)
-stepped s p h (ok k r) b l q =
-    let a : Rest (drop p s) r = l.rest k r refl in
-    let e : ◌≡◌ {A = Hop} (record { at = place_of s r; over = k }) h = cc in
-    let z : place_of s r ≡ h.at = ap (λ (h : Hop). h.at) e in
-    let w : k ≡ h.over = ap (λ (h : Hop). h.over) e in
-    record { is = ap (λ (j : ℕ). ok j r) w ∙ ap (ok h.over) (sym (rest-place (rest_trans (rest-drop p s) a)) ∙ ap (λ (j : ℕ). drop j s) z); high = omega arith }
-
-pub stopped : (s : List ℕ) (m : Res ℕ) (x : ℕ) → hop_of s m ≡ Err x → m ≡ bad x
-stopped s (bad y) x q = let e : y ≡ x = cc in ap bad e
-stopped s (ok v r) x q = let z : ◌≡◌ {A = ℕ} 0 1 = cc in absurd (omega arith)

@@ -1,165 +1,167 @@
--- One step of each walker at a position, for each way out of it.
-use Rattle.std.specs.Prelude.{ℕ, zero, suc, ◌+◌, ◌-◌, ◌≤◌, ◌<◌, true, false, List, [], ◌∷◌, ◌++◌, ◌≡◌, refl, length, min, take, drop, Option, Some, Result, Ok, Err}
-use Rattle.std.proofs.Common.{arith, sym, ap, ◌∙◌, add-one, get_or, length-append, length-drop, drop_of_length-le, drop-cons, drop-drop, le-leb}
+-- One step of each walker, for each way out of it.
+use Rattle.std.specs.Prelude.{ℕ, zero, suc, ◌+◌, ◌-◌, ◌≤◌, ◌<◌, true, false, List, [], ◌∷◌, ◌≡◌, refl, length, min, take, drop, Option, Some}
+use Rattle.std.proofs.Common.{arith, sym, ap, ◌∙◌, add-one, get_or, length-drop, drop_of_length-le, drop-cons, drop-drop, le-leb}
 use Rattle.std.proofs.lemmas.Bool.{lt-leb}
-use Rattle.std.proofs.Math.Seq.{take-append_seam}
 use Rattle.fields.specs.Format.{Malformed, Res, ok, bad, bind, byte, many, read_kind, read_text, after, rows, itself}
-use Rattle.fields.proofs.FormatLaws.{text-shape}
 use Rattle.fields.specs.declared.Code.{Code}
 use Rattle.fields.specs.declared.Code.TheVariants.{Number}
-use Rattle.fields.specs.declared.Hop.{Hop}
-use Rattle.fields.specs.Codes.{then_none, read_flag, step, advance, walk, hop}
-use Rattle.fields.specs.Walks.{place_of, value_of, walk_of, hop_of, part, Ended}
-use Rattle.fields.proofs.WalkLaws.{drop-within, end-at, ended, faulted, stepped, stopped, many-leaves, text-leaves, advance-leaves, walk-leaves}
+use Rattle.fields.specs.Codes.{then_none, read_flag, step, advance, walk, forget, hop}
+use Rattle.fields.specs.Walks.{place_of, Leaves, Rest}
+use Rattle.fields.proofs.WalkLaws.{walk-leaves}
 use Rattle.fields.specs.Rows.{text_here, walk_rows}
+use Rattle.fields.proofs.RowLaws.{walk_rows-leaves, text_here-read}
 
 -- ---- a byte, and many
 
-module _ (s : List ℕ) (at : ℕ) where
-  pub byte_none : length s ≤ at → byte (drop at s) ≡ bad Malformed
+module _ (s : List ℕ) where
+  pub byte_none : length s ≡ 0 → byte s ≡ bad Malformed
   unfolding byte
-  byte_none h = rw (drop_of_length-le s h)
+  byte_none h = go s h
+    where
+      go : (s : List ℕ) → length s ≡ 0 → byte s ≡ bad Malformed
+      go [] h = refl
+      go (x ∷ s) h = absurd (omega arith)
 
-  pub byte_some : at < length s → byte (drop at s) ≡ ok (get_or s at 0) (drop (at + 1) s)
+  pub byte_some : (x : ℕ) (r : List ℕ) → s ≡ x ∷ r → byte s ≡ ok x r
   unfolding byte
-  byte_some h = rw (drop-cons s at 0 h, add-one)
+  byte_some x r h = rw h
 
-  pub many_none : (n : ℕ) → length s - at < n → many n (drop at s) ≡ bad Malformed
+  pub many_none : (n : ℕ) → length s < n → many n s ≡ bad Malformed
   unfolding many
-  many_none n h = rw (lt-leb n (length (drop at s)) (rw length-drop h))
+  many_none n h = rw (lt-leb n (length s) h)
 
-  pub many_some : (n : ℕ) → at ≤ length s → n ≤ length s - at → (many n (drop at s) ≡ ok (take n (drop at s)) (drop (at + n) s)) × (place_of s (drop (at + n) s) ≡ at + n)
+  pub many_some : (n : ℕ) → n ≤ length s → many n s ≡ ok (take n s) (drop n s)
   unfolding many
-  many_some n i h = (rw (le-leb n (length (drop at s)) (rw length-drop h), drop-drop), end-at s (at + n) (omega arith))
+  many_some n h = rw (le-leb n (length s) h)
 
-  pub kind_bad : at < length s → 2 ≤ get_or s at 0 → read_kind (drop at s) ≡ bad Malformed
-  unfolding read_kind
-  kind_bad i h = rw (drop-cons s at 0 i) (go (get_or s at 0) h)
-    where
-      go : (x : ℕ) → 2 ≤ x → read_kind (x ∷ drop (suc at) s) ≡ bad Malformed
-      go zero h = absurd (omega arith)
-      go (suc zero) h = absurd (omega arith)
-      go (suc (suc k)) h = refl
+-- ---- kinds and options
 
-  pub kind_some : at < length s → get_or s at 0 < 2 → walk_of s (read_kind (drop at s)) ≡ Ok (at + 1)
-  unfolding read_kind
-  kind_some i h = rw (drop-cons s at 0 i, ← add-one at) (go (get_or s at 0) h ∙ ap Ok (end-at s (at + 1) (omega arith)))
-    where
-      go : (x : ℕ) → x < 2 → walk_of s (read_kind (x ∷ drop (at + 1) s)) ≡ Ok (place_of s (drop (at + 1) s))
-      go zero h = refl
-      go (suc zero) h = refl
-      go (suc (suc k)) h = absurd (omega arith)
-
-  pub flag_bad : (n : ℕ) → at < length s → 2 ≤ get_or s at 0 → read_flag n (drop at s) ≡ bad Malformed
-  unfolding read_flag
-  flag_bad n i h = rw (drop-cons s at 0 i) (go (get_or s at 0) h)
-    where
-      go : (x : ℕ) → 2 ≤ x → read_flag n (x ∷ drop (suc at) s) ≡ bad Malformed
-      go zero h = absurd (omega arith)
-      go (suc zero) h = absurd (omega arith)
-      go (suc (suc k)) h = refl
-
-  pub flag_absent : (n : ℕ) → at < length s → get_or s at 0 ≡ 0 → hop_of s (read_flag n (drop at s)) ≡ Ok (record { at = at + 1; over = n })
-  unfolding read_flag
-  flag_absent n i h = rw (drop-cons s at 0 i, h, ← add-one at, end-at s (at + 1) (omega arith))
-
-  pub flag_present : (n : ℕ) → at < length s → get_or s at 0 ≡ 1 → hop_of s (read_flag n (drop at s)) ≡ Ok (record { at = at + 1; over = 0 })
-  unfolding read_flag
-  flag_present n i h = rw (drop-cons s at 0 i, h, ← add-one at, end-at s (at + 1) (omega arith))
-
-pub kind_failed : (s : List ℕ) (e : ℕ) → Err e ≡ value_of (byte s) → read_kind s ≡ bad e
+pub kind_failed : (s : List ℕ) (e : ℕ) → bad e ≡ byte s → read_kind s ≡ bad e
 unfolding byte read_kind
 kind_failed [] e h = cc
 kind_failed (x ∷ s) e h = cc
 
-pub flag_failed : (n : ℕ) (s : List ℕ) (e : ℕ) → Err e ≡ value_of (byte s) → read_flag n s ≡ bad e
-unfolding byte read_flag
-flag_failed n [] e h = cc
-flag_failed n (x ∷ s) e h = cc
+pub kind_bad : (s : List ℕ) (x : ℕ) (r : List ℕ) → ok x r ≡ byte s → 2 ≤ x → read_kind s ≡ bad Malformed
+unfolding byte read_kind
+kind_bad [] x r e h = cc
+kind_bad (zero ∷ s) x r e h = let z : x ≡ 0 = cc in absurd (omega arith)
+kind_bad (suc zero ∷ s) x r e h = let z : x ≡ 1 = cc in absurd (omega arith)
+kind_bad (suc (suc k) ∷ s) x r e h = refl
+
+pub kind_some : (s : List ℕ) (x : ℕ) (r : List ℕ) → ok x r ≡ byte s → x < 2 → forget (read_kind s) ≡ ok tt r
+unfolding byte read_kind
+kind_some [] x r e h = cc
+kind_some (zero ∷ s) x r e h = cc
+kind_some (suc zero ∷ s) x r e h = cc
+kind_some (suc (suc k) ∷ s) x r e h = let z : x ≡ suc (suc k) = cc in absurd (omega arith)
+
+module _ (n : ℕ) where
+  pub flag_failed : (s : List ℕ) (e : ℕ) → bad e ≡ byte s → read_flag n s ≡ bad e
+  unfolding byte read_flag
+  flag_failed [] e h = cc
+  flag_failed (x ∷ s) e h = cc
+
+  pub flag_absent : (s r : List ℕ) → ok 0 r ≡ byte s → read_flag n s ≡ ok n r
+  unfolding byte read_flag
+  flag_absent [] r h = cc
+  flag_absent (zero ∷ s) r h = cc
+  flag_absent (suc k ∷ s) r h = let z : 0 ≡ suc k = cc in absurd (omega arith)
+
+  pub flag_present : (s r : List ℕ) → ok 1 r ≡ byte s → read_flag n s ≡ ok 0 r
+  unfolding byte read_flag
+  flag_present [] r h = cc
+  flag_present (zero ∷ s) r h = let z : ◌≡◌ {A = ℕ} 1 0 = cc in absurd (omega arith)
+  flag_present (suc zero ∷ s) r h = cc
+  flag_present (suc (suc k) ∷ s) r h = let z : 1 ≡ suc (suc k) = cc in absurd (omega arith)
+
+  pub flag_bad : (s : List ℕ) (x : ℕ) (r : List ℕ) → ok x r ≡ byte s → 2 ≤ x → read_flag n s ≡ bad Malformed
+  unfolding byte read_flag
+  flag_bad [] x r e h = cc
+  flag_bad (zero ∷ s) x r e h = let z : x ≡ 0 = cc in absurd (omega arith)
+  flag_bad (suc zero ∷ s) x r e h = let z : x ≡ 1 = cc in absurd (omega arith)
+  flag_bad (suc (suc k) ∷ s) x r e h = refl
 
 pub ruleset reads = (byte_none, byte_some, many_none, many_some)
 
-pub ruleset kinds = (byte_some, kind_failed, kind_bad, kind_some)
+pub ruleset kinds = (kind_failed, kind_bad, kind_some)
 
-pub ruleset flags = (byte_some, flag_failed, flag_bad, flag_absent, flag_present)
+pub ruleset flags = (flag_failed, flag_absent, flag_present, flag_bad)
+
+-- ---- loops over so many
+
+one_less : (n i : ℕ) → i < n → n - i ≡ suc (n - (i + 1))
+one_less n i h = omega arith
 
 -- ---- texts, one after the other
 
-abbrev pub texts_at : ℕ → List ℕ → ℕ → ℕ → Option (List ℕ) → Result ℕ ℕ
-texts_at l s at n p = walk_of s (rows (read_text l) itself n p (drop at s))
+-- a text that was gone over is the one that stood there
+module _ (l : ℕ) (s : List ℕ) where
+  text_gone : (r : List ℕ) → ok tt r ≡ forget (read_text l s) → ok (text_here s) r ≡ read_text l s
+  text_gone r q = go (read_text l s) refl q
+    where
+      go : (m : Res (List ℕ)) → read_text l s ≡ m → ok tt r ≡ forget m → ok (text_here s) r ≡ m
+      go (ok t r') e h = let z : r ≡ r' = cc in rw (text_here-read l s t r' e, z)
+      go (bad x) e h = cc
 
--- a value changed on the way does not change where it ends
-walk-map : {A B : Type 0} (s : List ℕ) (f : A → B) (m : Res A) → walk_of s (bind m (λ v r. ok (f v) r)) ≡ walk_of s m
-walk-map s f (ok v r) = refl
-walk-map s f (bad e) = refl
+  text_stopped : (e : ℕ) → bad e ≡ forget (read_text l s) → bad e ≡ read_text l s
+  text_stopped e q = go (read_text l s) q
+    where
+      go : (m : Res (List ℕ)) → bad e ≡ forget m → bad e ≡ m
+      go (ok t r) h = cc
+      go (bad x) h = cc
 
--- the text that was read is the part after its length byte
-text-read : (n : ℕ) (s : List ℕ) (p e : ℕ) → p ≤ length s → walk_of s (read_text n (drop p s)) ≡ Ok e
-    → (read_text n (drop p s) ≡ ok (part s (p + 1) e) (drop e s)) × (p + 1 ≤ e) × (e ≤ length s)
-text-read n s p e h q =
-    let w : Ended s (read_text n (drop p s)) p e = ended s p e (read_text n (drop p s)) h (text-leaves n (drop p s)) q in
-    let t : List ℕ = w.v in
-    let d : drop p s ≡ length t ∷ (t ++ drop e s) = text-shape n (drop p s) t (drop e s) w.is in
-    let l : length s - p ≡ suc (length t + (length s - e)) = sym (length-drop p s) ∙ ap length d ∙ ap suc (length-append t (drop e s) ∙ ap (λ (k : ℕ). length t + k) (length-drop e s)) in
-    let u : e ≤ length s = w.high in
-    let z : e - (p + 1) ≡ length t = omega arith in
-    let d₁ : drop (p + 1) s ≡ t ++ drop e s = sym (drop-drop 1 p s) ∙ ap (drop 1) d in
-    let k : part s (p + 1) e ≡ t = ap (take (e - (p + 1))) d₁ ∙ ap (λ (j : ℕ). take j (t ++ drop e s)) z ∙ take-append_seam t (drop e s) in
-    (rw k w.is, omega arith, u)
+abbrev pub texts_read : ℕ → ℕ → Option (List ℕ) → List ℕ → Res (Unit {0})
+texts_read l n p s = forget (rows (read_text l) itself n p s)
 
-module _ (l : ℕ) (s : List ℕ) (p : ℕ) (prev : Option (List ℕ)) (n i : ℕ) where
-  pub texts_none : n ≤ i → p ≤ length s → texts_at l s p (n - i) prev ≡ Ok p
+-- a value changed on the way does not change what is left
+forget-map : {A B : Type 0} (f : A → B) (m : Res A) → forget (bind m (λ v r. ok (f v) r)) ≡ forget m
+forget-map f (ok v r) = refl
+forget-map f (bad e) = refl
+
+module _ (l : ℕ) (s : List ℕ) (p : Option (List ℕ)) (n i : ℕ) where
+  pub texts_none : n ≤ i → texts_read l (n - i) p s ≡ ok tt s
   unfolding rows
-  texts_none h b = let z : n - i ≡ 0 = omega arith in rw (z, end-at s p b)
+  texts_none h = let z : n - i ≡ 0 = omega arith in rw z
 
-  more : i < n → n - i ≡ suc (n - (i + 1))
-  more h = omega arith
-
-  module _ (e : ℕ) (h : i < n) where
-    pub texts_fault : Err e ≡ walk_of s (read_text l (drop p s)) → texts_at l s p (n - i) prev ≡ Err e
+  module _ (h : i < n) where
+    pub texts_fault : (e : ℕ) → bad e ≡ forget (read_text l s) → texts_read l (n - i) p s ≡ bad e
     unfolding rows
-    texts_fault q = rw (more h, faulted s (read_text l (drop p s)) e (sym q))
+    texts_fault e q = rw (one_less n i h, ← text_stopped l s e q)
 
-    module _ (b : p ≤ length s) (q : Ok e ≡ walk_of s (read_text l (drop p s))) where
-      pub texts_order : after prev (part s (p + 1) e) ≡ false → texts_at l s p (n - i) prev ≡ Err Malformed
+    module _ (r : List ℕ) (q : ok tt r ≡ forget (read_text l s)) where
+      pub texts_order : after p (text_here s) ≡ false → texts_read l (n - i) p s ≡ bad Malformed
       unfolding rows
-      texts_order o = rw (more h, (text-read l s p e b (sym q)).0, o)
+      texts_order o = rw (one_less n i h, ← text_gone l s r q, o)
 
-      pub texts_more : after prev (part s (p + 1) e) ≡ true → texts_at l s p (n - i) prev ≡ texts_at l s e (n - (i + 1)) (Some (part s (p + 1) e))
+      pub texts_more : after p (text_here s) ≡ true → texts_read l (n - i) p s ≡ texts_read l (n - (i + 1)) (Some (text_here s)) r
       unfolding rows
-      texts_more o =
-          rw (
-            more h,
-            (text-read l s p e b (sym q)).0,
-            o,
-            walk-map s (λ (vs : List (List ℕ)). part s (p + 1) e ∷ vs) (rows (read_text l) itself (n - (i + 1)) (Some (part s (p + 1) e)) (drop e s)),
-          )
+      texts_more o = rw (one_less n i h, ← text_gone l s r q, o, forget-map (λ (vs : List (List ℕ)). text_here s ∷ vs) (rows (read_text l) itself (n - (i + 1)) (Some (text_here s)) r))
 
 -- ---- one code
 
-pub done : {A : Type 0} (s : List ℕ) (m : Res A) (e : ℕ) → Ok e ≡ walk_of s m → hop_of s (then_none m) ≡ Ok (record { at = e; over = 0 })
-done s (ok v r) e h = let z : e ≡ place_of s r = cc in rw z
-done s (bad x) e h = let z : ◌≡◌ {A = ℕ} 0 1 = cc in absurd (omega arith)
+pub done : {A : Type 0} (m : Res A) (r : List ℕ) → ok tt r ≡ forget m → then_none m ≡ ok 0 r
+done (ok v t) r h = cc
+done (bad e) r h = cc
 
-pub failed : {A : Type 0} (s : List ℕ) (m : Res A) (e : ℕ) → Err e ≡ walk_of s m → hop_of s (then_none m) ≡ Err e
-failed s (ok v r) e h = let z : ◌≡◌ {A = ℕ} 0 1 = cc in absurd (omega arith)
-failed s (bad x) e h = let z : e ≡ x = cc in rw z
+pub failed : {A : Type 0} (m : Res A) (e : ℕ) → bad e ≡ forget m → then_none m ≡ bad e
+failed (ok v t) e h = cc
+failed (bad x) e h = cc
 
--- ---- a walk, code by code
-
-pub advance_pass : (s : List ℕ) (k : ℕ) (c : Code) (at : ℕ) → at ≤ length s → (k ≡ 0 → ⊥) → hop_of s (advance k c (drop at s)) ≡ Ok (record { at = at; over = k - 1 })
+pub advance_pass : (k : ℕ) (c : Code) (s : List ℕ) → (k ≡ 0 → ⊥) → advance k c s ≡ ok (k - 1) s
 unfolding advance
-advance_pass s zero c at h j = absurd (j refl)
-advance_pass s (suc k) c at h j = let z : suc k - 1 ≡ k = omega arith in rw (end-at s at h, z)
+advance_pass zero c s j = absurd (j refl)
+advance_pass (suc k) c s j = let z : suc k - 1 ≡ k = omega arith in rw z
 
 pub advance_here : (k : ℕ) (c : Code) (s : List ℕ) → k ≡ 0 → advance k c s ≡ step c s
 unfolding advance
 advance_here k c s h = rw h
 
-module _ (s : List ℕ) (p k : ℕ) (cs : List Code) (i : ℕ) where
-  pub walk_end : length cs ≤ i → p ≤ length s → walk_of s (walk k (drop i cs) (drop p s)) ≡ Ok p
+-- ---- a record, code by code
+
+module _ (s : List ℕ) (k : ℕ) (cs : List Code) (i : ℕ) where
+  pub walk_end : length cs ≤ i → walk k (drop i cs) s ≡ ok tt s
   unfolding walk
-  walk_end h b = rw (drop_of_length-le cs h, end-at s p b)
+  walk_end h = rw (drop_of_length-le cs h)
 
   -- the i-th code, as a loop over a slice reads it
   abbrev code : Code
@@ -169,13 +171,50 @@ module _ (s : List ℕ) (p k : ℕ) (cs : List Code) (i : ℕ) where
     code-cons : drop i cs ≡ code ∷ drop (i + 1) cs
     code-cons = rw (drop-cons cs i (Number 0) h, add-one)
 
-    pub walk_stop : (e : ℕ) → Err e ≡ hop_of s (advance k code (drop p s)) → walk k (drop i cs) (drop p s) ≡ bad e
+    pub walk_stop : (e : ℕ) → bad e ≡ advance k code s → walk k (drop i cs) s ≡ bad e
     unfolding walk
-    walk_stop e q = rw (code-cons, stopped s (advance k code (drop p s)) e (sym q))
+    walk_stop e q = rw (code-cons, ← q)
 
-    pub walk_next : (j : Hop) → p ≤ length s → Ok j ≡ hop_of s (advance k code (drop p s)) → walk k (drop i cs) (drop p s) ≡ walk j.over (drop (i + 1) cs) (drop j.at s)
+    pub walk_next : (j : ℕ) (r : List ℕ) → ok j r ≡ advance k code s → walk k (drop i cs) s ≡ walk j (drop (i + 1) cs) r
     unfolding walk
-    walk_next j b q = rw (code-cons, (stepped s p j (advance k code (drop p s)) b (advance-leaves k code (drop p s)) (sym q)).is)
+    walk_next j r q = rw (code-cons, ← q)
+
+-- ---- rows
+
+module _ (cs : List Code) (s : List ℕ) (p : Option (List ℕ)) (n i : ℕ) where
+  pub rows_none : n ≤ i → walk_rows cs (n - i) p s ≡ ok tt s
+  unfolding walk_rows
+  rows_none h = let z : n - i ≡ 0 = omega arith in rw z
+
+  module _ (h : i < n) where
+    pub rows_fault : (e : ℕ) → bad e ≡ walk 0 cs s → walk_rows cs (n - i) p s ≡ bad e
+    unfolding walk_rows
+    rows_fault e q = rw (one_less n i h, ← q)
+
+    module _ (r : List ℕ) (q : ok tt r ≡ walk 0 cs s) where
+      pub rows_order : after p (text_here s) ≡ false → walk_rows cs (n - i) p s ≡ bad Malformed
+      unfolding walk_rows
+      rows_order o = rw (one_less n i h, ← q, o)
+
+      pub rows_more : after p (text_here s) ≡ true → walk_rows cs (n - i) p s ≡ walk_rows cs (n - (i + 1)) (Some (text_here s)) r
+      unfolding walk_rows
+      rows_more o = rw (one_less n i h, ← q, o)
+
+pub ruleset loops = (texts_none, texts_fault, texts_order, texts_more, walk_end, walk_stop, walk_next, rows_none, rows_fault, rows_order, rows_more)
+
+-- ---- what is left is no longer than what there was
+
+short : {A : Type 0} (s : List ℕ) (at : ℕ) (m : Res A) (v : A) (r : List ℕ) → Leaves (drop at s) m → ok v r ≡ m → length r ≤ length s
+short s at m v r l q =
+    let a : Rest (drop at s) r = l.rest v r (sym q) in
+    let e : length r ≡ length (drop at s) - a.bytes = ap length a.is ∙ length-drop a.bytes (drop at s) in
+    omega (arith, length-drop at s)
+
+pub record_short : (cs : List Code) (s : List ℕ) (at : ℕ) (r : List ℕ) → ok tt r ≡ walk 0 cs (drop at s) → length r ≤ length s
+record_short cs s at r q = short s at (walk 0 cs (drop at s)) tt r (walk-leaves 0 cs (drop at s)) q
+
+pub rows_short : (cs : List Code) (n : ℕ) (p : Option (List ℕ)) (s : List ℕ) (at : ℕ) (r : List ℕ) → ok tt r ≡ walk_rows cs n p (drop at s) → length r ≤ length s
+rows_short cs n p s at r q = short s at (walk_rows cs n p (drop at s)) tt r (walk_rows-leaves cs n p (drop at s)) q
 
 -- ---- the text at a place
 
@@ -194,32 +233,3 @@ after_text_none s at h = rw (drop_of_length-le s h) (omega arith)
 pub after_text_some : (s : List ℕ) (at : ℕ) → at < length s → place_of s (hop (drop at s)) ≡ min (at + 1 + get_or s at 0) (length s)
 unfolding hop
 after_text_some s at h = rw (drop-cons s at 0 h, add-one, drop-drop, length-drop) (omega arith)
-
--- ---- rows
-
-module _ (cs : List Code) (s : List ℕ) (p : ℕ) (prev : Option (List ℕ)) (n i : ℕ) where
-  pub rows_none : n ≤ i → p ≤ length s → walk_of s (walk_rows cs (n - i) prev (drop p s)) ≡ Ok p
-  unfolding walk_rows
-  rows_none h b = let z : n - i ≡ 0 = omega arith in rw (z, end-at s p b)
-
-  one_less : i < n → n - i ≡ suc (n - (i + 1))
-  one_less h = omega arith
-
-  module _ (e : ℕ) (h : i < n) where
-    pub rows_fault : Err e ≡ walk_of s (walk 0 cs (drop p s)) → walk_rows cs (n - i) prev (drop p s) ≡ bad e
-    unfolding walk_rows
-    rows_fault q = rw (one_less h, faulted s (walk 0 cs (drop p s)) e (sym q))
-
-    module _ (b : p ≤ length s) (q : Ok e ≡ walk_of s (walk 0 cs (drop p s))) where
-      row : walk 0 cs (drop p s) ≡ ok tt (drop e s)
-      row = (ended s p e (walk 0 cs (drop p s)) b (walk-leaves 0 cs (drop p s)) (sym q)).is
-
-      pub rows_order : after prev (text_here (drop p s)) ≡ false → walk_rows cs (n - i) prev (drop p s) ≡ bad Malformed
-      unfolding walk_rows
-      rows_order o = rw (one_less h, row, o)
-
-      pub rows_more : after prev (text_here (drop p s)) ≡ true → walk_rows cs (n - i) prev (drop p s) ≡ walk_rows cs (n - (i + 1)) (Some (text_here (drop p s))) (drop e s)
-      unfolding walk_rows
-      rows_more o = rw (one_less h, row, o)
-
-pub ruleset loops = (texts_none, texts_fault, texts_order, texts_more, walk_end, walk_stop, walk_next, rows_none, rows_fault, rows_order, rows_more, drop-within)

@@ -1,30 +1,28 @@
 -- A walk over a slice from a position: where it ends, or the first fault.
-use Rattle.std.specs.Prelude.{ℕ, ◌-◌, ◌≤◌, List, ◌≡◌, length, take, drop, Result, Ok, Err}
+use Rattle.std.specs.Prelude.{ℕ, ◌-◌, ◌≤◌, List, ◌≡◌, length, drop, Result, Ok, Err}
+use denote.Ref.{Bor}
+use Rattle.refusals.specs.Numbers.{number}
+use Rattle.refusals.specs.declared.Refusal.{Refusal}
 use Rattle.fields.specs.Format.{Res, ok, bad}
-use Rattle.fields.specs.declared.Hop.{Hop}
 
 -- where the rest r of s starts
 abbrev pub place_of : List ℕ → List ℕ → ℕ
 place_of s r = length s - length r
 
--- the value that was read, or the first fault
-abbrev pub value_of : {A : Type 0} → Res A → Result A ℕ
-value_of (ok v r) = Ok v
-value_of (bad e) = Err e
+-- what a reader finds, where a walker answers this and leaves these bytes
+abbrev pub read : {A : Type 0} → Result A Refusal → List ℕ → Res A
+read (Ok v) r = ok v r
+read (Err e) r = bad (number e)
+
+-- the same where it answers a part of the bytes
+abbrev pub read_bytes : Result (Bor (List ℕ)) Refusal → List ℕ → Res (List ℕ)
+read_bytes (Ok t) r = ok t.now r
+read_bytes (Err e) r = bad (number e)
 
 -- where the rest starts, or the first fault
 abbrev pub walk_of : {A : Type 0} → List ℕ → Res A → Result ℕ ℕ
 walk_of s (ok v r) = Ok (place_of s r)
 walk_of s (bad e) = Err e
-
--- one code: the place after it, and how many codes are passed over
-abbrev pub hop_of : List ℕ → Res ℕ → Result Hop ℕ
-hop_of s (ok n r) = Ok (record { at = place_of s r; over = n })
-hop_of s (bad e) = Err e
-
--- the bytes from a up to e
-abbrev pub part : List ℕ → ℕ → ℕ → List ℕ
-part s a e = take (e - a) (drop a s)
 
 -- ---- a rest is what is left after some bytes
 
@@ -42,8 +40,4 @@ pub record Ended {A : Type 0} (s : List ℕ) (m : Res A) (p e : ℕ) : Type 0 wh
   pub v : A
   pub is : m ≡ ok v (drop e s)
   pub low : p ≤ e
-  pub high : e ≤ length s
-
-pub record Stepped (s : List ℕ) (m : Res ℕ) (p e n : ℕ) : Type 0 where
-  pub is : m ≡ ok n (drop e s)
   pub high : e ≤ length s

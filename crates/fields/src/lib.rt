@@ -1,11 +1,11 @@
 // Walks over the bytes of a record: a shape is a list of codes, and one walker reads any shape.
 #![tactic(auto)]
 
-ghost use Rattle.std.specs.Prelude.{◌≡◌, ◌≤◌, ◌<◌, IfOk, OnOk, min, length, drop, option_copied};
+ghost use Rattle.std.specs.Prelude.{◌≡◌, ◌≤◌, IfOk, None, min, length, drop, option_copied};
 ghost use Rattle.refusals.specs.Numbers.{numbered};
 ghost use Rattle.fields.specs.Format.{byte, many, read_kind, read_text, after, rows, itself, read_set};
-ghost use Rattle.fields.specs.Codes.{read_flag, step, advance, walk, hop};
-ghost use Rattle.fields.specs.Walks.{place_of, value_of, walk_of, hop_of};
+ghost use Rattle.fields.specs.Codes.{read_flag, step, advance, walk, forget, hop};
+ghost use Rattle.fields.specs.Walks.{read, read_bytes, place_of, walk_of};
 ghost use Rattle.fields.specs.Rows.{text_here, walk_rows};
 
 use refusals::Refusal;
@@ -48,149 +48,183 @@ impl Hop {
     }
 }
 
-// The byte at a place.
-#[tactic(auto, using(crate::proofs::WalkSteps::reads))]
-fn byte(s: &[u8], at: usize) -> Result<u8, Refusal>
-    ensures read { numbered result ≡ value_of (byte (drop at s.now)) }
-    ensures within { OnOk result (at < length s.now) }
-{
-    s.get(at).copied().ok_or(Refusal::Malformed)
+// What is left of the bytes of a record. Each method reads what stands at the front, and goes behind it.
+#[derive(Drop)]
+struct Walker<'a> {
+    rest: &'a [u8],
 }
 
-#[tactic(auto, using(crate::proofs::WalkSteps::reads))]
-fn number(n: u8, s: &[u8], at: usize) -> Result<usize, Refusal>
-    requires { at ≤ length s.now }
-    ensures read { numbered result ≡ walk_of s.now (many n (drop at s.now)) }
-    ensures within { IfOk result (λ e. e ≤ length s.now) }
-{
-    let end = at + n as usize;
-    if end > s.len() {
-        return Err(Refusal::Malformed);
+impl<'a> Walker<'a> {
+    // From a place on.
+    fn at(s: &'a [u8], at: usize) -> Walker<'a>
+        ensures { result.rest.now ≡ drop at s.now }
+    {
+        Walker {
+            rest: &s[within(s, at)..],
+        }
     }
-    Ok(end)
+
+    #[tactic(auto, using(crate::proofs::WalkSteps::reads))]
+    fn byte(&mut self) -> Result<u8, Refusal>
+        ensures { read result self.new.rest.now ≡ byte self.old.rest.now }
+    {
+        let (first, rest) = self.rest.split_first().ok_or(Refusal::Malformed)?;
+        self.rest = rest;
+        Ok(*first)
+    }
+
+    #[tactic(auto, using(crate::proofs::WalkSteps::reads))]
+    fn bytes(&mut self, n: u8) -> Result<&'a [u8], Refusal>
+        ensures { read_bytes result self.new.rest.now ≡ many n self.old.rest.now }
+    {
+        let (bytes, rest) = self
+            .rest
+            .split_at_checked(n as usize)
+            .ok_or(Refusal::Malformed)?;
+        self.rest = rest;
+        Ok(bytes)
+    }
+
+    #[tactic(auto, using(crate::proofs::WalkSteps::kinds))]
+    fn kind(&mut self) -> Result<(), Refusal>
+        ensures { read result self.new.rest.now ≡ forget (read_kind self.old.rest.now) }
+    {
+        if self.byte()? >= 2 {
+            return Err(Refusal::Malformed);
+        }
+        Ok(())
+    }
+
+    // A text: first its limit, then an early end, then UTF-8.
+    #[tactic(auto, unfolding(crate::specs::Format::read_text))]
+    fn text(&mut self, limit: u8) -> Result<(), Refusal>
+        ensures { read result self.new.rest.now ≡ forget (read_text limit self.old.rest.now) }
+    {
+        let n = self.byte()?;
+        if n > limit {
+            return Err(Refusal::OverLimit);
+        }
+        if !text::is_utf8(self.bytes(n)?) {
+            return Err(Refusal::NotUtf8);
+        }
+        Ok(())
+    }
+
+    // n texts, each after the one before it.
+    #[tactic(auto, using(crate::proofs::WalkSteps::loops))]
+    fn texts(&mut self, limit: u8, n: u8) -> Result<(), Refusal>
+        ensures { read result self.new.rest.now ≡ forget (rows (read_text limit) itself n None self.old.rest.now) }
+    {
+        let mut before = None;
+        for _ in 0..n {
+            let text = text_at(self.rest, 0);
+            self.text(limit)?;
+            if !is_after(before, text) {
+                return Err(Refusal::Malformed);
+            }
+            before = Some(text);
+        }
+        Ok(())
+    }
+
+    #[tactic(auto, unfolding(crate::specs::Format::read_set))]
+    fn keys(&mut self, most: u8, limit: u8) -> Result<(), Refusal>
+        ensures { read result self.new.rest.now ≡ forget (read_set most limit self.old.rest.now) }
+    {
+        let n = self.byte()?;
+        if n > most {
+            return Err(Refusal::OverLimit);
+        }
+        self.texts(limit, n)
+    }
+
+    // The byte of an option: how many codes are passed over.
+    #[tactic(auto, using(crate::proofs::WalkSteps::flags))]
+    fn flag(&mut self, codes: u8) -> Result<u8, Refusal>
+        ensures { read result self.new.rest.now ≡ read_flag codes self.old.rest.now }
+    {
+        match self.byte()? {
+            0 => Ok(codes),
+            1 => Ok(0),
+            _ => Err(Refusal::Malformed),
+        }
+    }
+
+    // One code: how many codes after it are passed over.
+    #[tactic(auto, using(crate::proofs::WalkSteps::done, crate::proofs::WalkSteps::failed), unfolding(crate::specs::Codes::step))]
+    fn code(&mut self, code: Code) -> Result<u8, Refusal>
+        ensures { read result self.new.rest.now ≡ step code self.old.rest.now }
+    {
+        match code {
+            Code::Number(n) => {
+                self.bytes(n)?;
+                Ok(0)
+            }
+            Code::Kind => {
+                self.kind()?;
+                Ok(0)
+            }
+            Code::Text(limit) => {
+                self.text(limit)?;
+                Ok(0)
+            }
+            Code::Keys(most, limit) => {
+                self.keys(most, limit)?;
+                Ok(0)
+            }
+            Code::Maybe(codes) => self.flag(codes),
+        }
+    }
+
+    // The same where so many codes are yet to be passed over.
+    #[tactic(auto, using(crate::proofs::WalkSteps::advance_here, crate::proofs::WalkSteps::advance_pass))]
+    fn advance(&mut self, over: u8, code: Code) -> Result<u8, Refusal>
+        ensures { read result self.new.rest.now ≡ advance over code self.old.rest.now }
+    {
+        if over == 0 {
+            return self.code(code);
+        }
+        Ok(over - 1)
+    }
+
+    #[tactic(auto, using(crate::proofs::WalkSteps::loops))]
+    fn record(&mut self, codes: &[Code]) -> Result<(), Refusal>
+        ensures { read result self.new.rest.now ≡ walk 0 codes.now self.old.rest.now }
+    {
+        let mut over = 0;
+        for code in codes {
+            over = self.advance(over, *code)?;
+        }
+        Ok(())
+    }
+
+    // n rows of these codes, the text of each after that of the row before it.
+    #[tactic(auto, using(crate::proofs::WalkSteps::loops))]
+    fn rows(&mut self, codes: &[Code], n: usize) -> Result<(), Refusal>
+        ensures { read result self.new.rest.now ≡ walk_rows codes.now n None self.old.rest.now }
+    {
+        let mut before = None;
+        for _ in 0..n {
+            let text = text_at(self.rest, 0);
+            self.record(codes)?;
+            if !is_after(before, text) {
+                return Err(Refusal::Malformed);
+            }
+            before = Some(text);
+        }
+        Ok(())
+    }
 }
 
-#[tactic(auto, using(crate::proofs::WalkSteps::kinds))]
-fn kind(s: &[u8], at: usize) -> Result<usize, Refusal>
-    ensures read { numbered result ≡ walk_of s.now (read_kind (drop at s.now)) }
-    ensures within { IfOk result (λ e. e ≤ length s.now) }
-{
-    if byte(s, at)? >= 2 {
-        return Err(Refusal::Malformed);
-    }
-    Ok(at + 1)
-}
-
-// A text: first its limit, then an early end, then UTF-8.
-#[tactic(auto, using(crate::proofs::WalkSteps::reads), unfolding(crate::specs::Format::read_text))]
-fn words(limit: u8, s: &[u8], at: usize) -> Result<usize, Refusal>
-    ensures read { numbered result ≡ walk_of s.now (read_text limit (drop at s.now)) }
-    ensures within { IfOk result (λ e. (at < e) × (e ≤ length s.now)) }
-{
-    let n = byte(s, at)?;
-    if n > limit {
-        return Err(Refusal::OverLimit);
-    }
-    let start = at + 1;
-    let end = start + n as usize;
-    if end > s.len() {
-        return Err(Refusal::Malformed);
-    }
-    if !text::is_utf8(&s[start..end]) {
-        return Err(Refusal::NotUtf8);
-    }
-    Ok(end)
-}
-
-// Whether b stands after the one before it, if there is one.
+// Whether a text stands after the one before it, if there is one.
 #[tactic(auto, unfolding(crate::specs::Format::after))]
-fn follows(before: Option<&[u8]>, b: &[u8]) -> bool
-    ensures { result ≡ after (option_copied before.entry) b.now }
+fn is_after(before: Option<&[u8]>, text: &[u8]) -> bool
+    ensures { result ≡ after (option_copied before.entry) text.now }
 {
     match before {
         None => true,
-        Some(a) => text::compare(a, b).order.is_lt(),
+        Some(b) => text::compare(b, text).order.is_lt(),
     }
-}
-
-// n texts, each after the one before it.
-#[tactic(auto, using(crate::proofs::WalkSteps::loops))]
-fn texts(limit: u8, s: &[u8], at: usize, n: usize) -> Result<usize, Refusal>
-    requires { at ≤ length s.now }
-    ensures read { numbered result ≡ walk_of s.now (rows (read_text limit) itself n None (drop at s.now)) }
-    ensures within { IfOk result (λ e. e ≤ length s.now) }
-{
-    let mut p = at;
-    let mut before = None;
-    for _ in 0..n {
-        let q = words(limit, s, p)?;
-        let text = &s[p + 1..q];
-        if !follows(before, text) {
-            return Err(Refusal::Malformed);
-        }
-        before = Some(text);
-        p = q;
-    }
-    Ok(p)
-}
-
-#[tactic(auto, using(crate::proofs::WalkSteps::reads), unfolding(crate::specs::Format::read_set))]
-fn keys(most: u8, limit: u8, s: &[u8], at: usize) -> Result<usize, Refusal>
-    ensures read { numbered result ≡ walk_of s.now (read_set most limit (drop at s.now)) }
-    ensures within { IfOk result (λ e. e ≤ length s.now) }
-{
-    let n = byte(s, at)?;
-    if n > most {
-        return Err(Refusal::OverLimit);
-    }
-    texts(limit, s, at + 1, n as usize)
-}
-
-// The byte of an option: where it is 0, so many codes are passed over.
-#[tactic(auto, using(crate::proofs::WalkSteps::flags))]
-fn flag(codes: usize, s: &[u8], at: usize) -> Result<Hop, Refusal>
-    ensures read { numbered result ≡ hop_of s.now (read_flag codes (drop at s.now)) }
-    ensures within { IfOk result (λ h. h.at ≤ length s.now) }
-{
-    match byte(s, at)? {
-        0 => Ok(Hop {
-            at: at + 1,
-            over: codes,
-        }),
-        1 => Ok(Hop::to(at + 1)),
-        _ => Err(Refusal::Malformed),
-    }
-}
-
-#[tactic(auto, using(crate::proofs::WalkSteps::done, crate::proofs::WalkSteps::failed), unfolding(crate::specs::Codes::step))]
-fn walk_code(code: Code, s: &[u8], at: usize) -> Result<Hop, Refusal>
-    requires { at ≤ length s.now }
-    ensures read { numbered result ≡ hop_of s.now (step code (drop at s.now)) }
-    ensures within { IfOk result (λ h. h.at ≤ length s.now) }
-{
-    match code {
-        Code::Number(n) => Ok(Hop::to(number(n, s, at)?)),
-        Code::Kind => Ok(Hop::to(kind(s, at)?)),
-        Code::Text(limit) => Ok(Hop::to(words(limit, s, at)?)),
-        Code::Keys(most, limit) => Ok(Hop::to(keys(most, limit, s, at)?)),
-        Code::Maybe(codes) => flag(codes as usize, s, at),
-    }
-}
-
-// The same where so many codes are yet to be passed over.
-#[tactic(auto, using(crate::proofs::WalkSteps::advance_here, crate::proofs::WalkSteps::advance_pass))]
-fn walk_on(from: Hop, code: Code, s: &[u8]) -> Result<Hop, Refusal>
-    requires { from.at ≤ length s.now }
-    ensures read { numbered result ≡ hop_of s.now (advance from.over code (drop from.at s.now)) }
-    ensures within { IfOk result (λ h. h.at ≤ length s.now) }
-{
-    if from.over == 0 {
-        return walk_code(code, s, from.at);
-    }
-    Ok(Hop {
-        at: from.at,
-        over: from.over - 1,
-    })
 }
 
 // A place no later than the end.
@@ -201,16 +235,14 @@ pub fn within(s: &[u8], at: usize) -> usize
 }
 
 // Where the record of these codes ends that starts at a place, or its first fault.
-#[tactic(auto, using(crate::proofs::WalkSteps::loops))]
+#[tactic(auto, using(crate::proofs::WalkSteps::record_short))]
 pub fn walk_record(codes: &[Code], s: &[u8], at: usize) -> Result<usize, Refusal>
     ensures read { numbered result ≡ walk_of s.now (walk 0 codes.now (drop at s.now)) }
     ensures within { IfOk result (λ e. e ≤ length s.now) }
 {
-    let mut here = Hop::to(within(s, at));
-    for code in codes {
-        here = walk_on(here, *code, s)?;
-    }
-    Ok(here.at)
+    let mut walker = Walker::at(s, at);
+    walker.record(codes)?;
+    Ok(s.len() - walker.rest.len())
 }
 
 // The text at a place: its length byte, and so many bytes or what there is of them.
@@ -236,20 +268,12 @@ pub fn after_text(s: &[u8], at: usize) -> usize
 }
 
 // Where n rows of these codes end that start at a place, or the first fault; each row's text stands after that of the row before it.
-#[tactic(auto, using(crate::proofs::WalkSteps::loops))]
+// The four come one by one, from an entry of bytes that are not yet known to be an image; rows that are known are `TableRows`.
+#[tactic(auto, using(crate::proofs::WalkSteps::rows_short))]
 pub fn walk_rows(codes: &[Code], s: &[u8], at: usize, n: usize) -> Result<usize, Refusal>
     ensures { numbered result ≡ walk_of s.now (walk_rows codes.now n None (drop at s.now)) }
 {
-    let mut p = within(s, at);
-    let mut before = None;
-    for _ in 0..n {
-        let q = walk_record(codes, s, p)?;
-        let text = text_at(s, p);
-        if !follows(before, text) {
-            return Err(Refusal::Malformed);
-        }
-        before = Some(text);
-        p = q;
-    }
-    Ok(p)
+    let mut walker = Walker::at(s, at);
+    walker.rows(codes, n)?;
+    Ok(s.len() - walker.rest.len())
 }

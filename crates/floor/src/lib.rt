@@ -2,19 +2,18 @@
 #![tactic(auto)]
 
 ghost use Rattle.std.specs.Prelude.{◌≡◌, ◌+◌, ◌-◌, min, max, length, drop};
-ghost use Rattle.fields.specs.Codes.{codes};
-ghost use Rattle.image.specs.Shapes.{lease};
-ghost use Rattle.tables.specs.Seek.{rows_at};
+ghost use Rattle.tables.specs.Seek.{rows_left};
 ghost use Rattle.machine.specs.Next.{policy_for};
 ghost use Rattle.floor.specs.Floors.{readable_for_window, oldest_at};
 ghost use Rattle.requests.specs.declared.PublicationAction.{PublicationAction};
 ghost use Rattle.next.specs.Call.{Asks, Answers};
 
 use image::{Contents, Scalars};
-use next::{Call, Change, PublicationOutcome};
+use next::Call;
 use parts::{Lengths, Part};
 use refusals::Refusal;
 use requests::SetRetentionWindow;
+use tables::TableRows;
 
 pub fn policy_for(w: Option<u64>, frontier: u64, old: u64) -> u64
     ensures { result ≡ policy_for w frontier old }
@@ -34,26 +33,26 @@ pub fn readable_for(w: Option<u64>, candidate: u64, old: u64) -> u64
     }
 }
 
-// The smallest of floor and the versions of n leases that stand at a place.
+// The smallest of floor and the versions of some leases.
 #[tactic(auto, using(crate::proofs::Steps::oldest_steps))]
-pub fn oldest(s: &[u8], at: usize, n: usize, floor: u64) -> u64
-    ensures { result ≡ oldest_at floor (rows_at (codes lease) n (drop at s.now)) }
+pub fn oldest(leases: TableRows<'_>, floor: u64) -> u64
+    ensures { result ≡ oldest_at floor (rows_left leases.entry) }
 {
     let mut oldest = floor;
-    for lease in tables::rows(&image::LEASE, s, at, n) {
+    for lease in leases {
         oldest = oldest.min(tables::number_after(&image::LEASE[..image::LEASE_VERSION], lease, 0));
     }
     oldest
 }
 
 pub fn observe_committed_frontier(
-    call: Call<'_>,
+    call: &Call<'_>,
     committed_frontier: u64,
     next: &mut [u8],
     outcome: &mut [u8],
 ) -> Result<Lengths, Refusal>
-    requires { Asks call (PublicationAction.ObserveCommittedFrontier committed_frontier) }
-    ensures { Answers call.entry next.old outcome.old result next.new outcome.new }
+    requires { Asks call.now (PublicationAction.ObserveCommittedFrontier committed_frontier) }
+    ensures { Answers call.now next.old outcome.old result next.new outcome.new }
 {
     let n = call.contents.scalars;
     if committed_frontier == 0 {
@@ -63,10 +62,8 @@ pub fn observe_committed_frontier(
         return Err(Refusal::CommittedFrontierRetreated);
     }
     let w = n.retention_window;
-    let tables = call.contents.tables;
-    let leases = tables[image::LEASES];
     let policy = policy_for(w, committed_frontier, n.policy_floor);
-    let candidate = oldest(call.image, leases.at, leases.count, policy);
+    let candidate = oldest(call.rows(image::LEASES), policy);
     let readable = readable_for(w, candidate, n.minimum_readable_version);
     let contents = Contents {
         scalars: Scalars {
@@ -77,42 +74,29 @@ pub fn observe_committed_frontier(
             minimum_readable_version: readable,
             ..n
         },
-        ..call.contents
+        ..*call.contents
     };
-    let first = tables[image::INTENTS];
+    let first = call.contents.tables[image::INTENTS];
     let body = [Part::First(first.at, call.image.len())];
-    next::emit(
-        call,
-        Change {
-            from: call.image,
-            contents,
-            body: &body,
-            stored: call.image,
-            told: PublicationOutcome::Applied,
-        },
-        next,
-        outcome,
-    )
+    next::emit_applied(call, &contents, &body, next, outcome)
 }
 
 pub fn set_retention_window(
-    call: Call<'_>,
-    a: SetRetentionWindow,
+    call: &Call<'_>,
+    a: &SetRetentionWindow,
     next: &mut [u8],
     outcome: &mut [u8],
 ) -> Result<Lengths, Refusal>
-    requires { Asks call (PublicationAction.SetRetentionWindow a) }
-    ensures { Answers call.entry next.old outcome.old result next.new outcome.new }
+    requires { Asks call.now (PublicationAction.SetRetentionWindow a.now) }
+    ensures { Answers call.now next.old outcome.old result next.new outcome.new }
 {
     let n = call.contents.scalars;
     if a.expected_policy_epoch != n.retention_policy_epoch {
         return Err(Refusal::RetentionPolicyEpochMismatch);
     }
     let w = Some(a.retention_window);
-    let tables = call.contents.tables;
-    let leases = tables[image::LEASES];
     let policy = policy_for(w, n.observed_commit_frontier, n.policy_floor);
-    let candidate = oldest(call.image, leases.at, leases.count, policy);
+    let candidate = oldest(call.rows(image::LEASES), policy);
     let readable = readable_for(w, candidate, n.minimum_readable_version);
     let contents = Contents {
         scalars: Scalars {
@@ -124,32 +108,21 @@ pub fn set_retention_window(
             minimum_readable_version: readable,
             ..n
         },
-        ..call.contents
+        ..*call.contents
     };
-    let first = tables[image::INTENTS];
+    let first = call.contents.tables[image::INTENTS];
     let body = [Part::First(first.at, call.image.len())];
-    next::emit(
-        call,
-        Change {
-            from: call.image,
-            contents,
-            body: &body,
-            stored: call.image,
-            told: PublicationOutcome::Applied,
-        },
-        next,
-        outcome,
-    )
+    next::emit_applied(call, &contents, &body, next, outcome)
 }
 
 pub fn observe_range_map_epoch(
-    call: Call<'_>,
+    call: &Call<'_>,
     range_map_epoch: u64,
     next: &mut [u8],
     outcome: &mut [u8],
 ) -> Result<Lengths, Refusal>
-    requires { Asks call (PublicationAction.ObserveRangeMapEpoch range_map_epoch) }
-    ensures { Answers call.entry next.old outcome.old result next.new outcome.new }
+    requires { Asks call.now (PublicationAction.ObserveRangeMapEpoch range_map_epoch) }
+    ensures { Answers call.now next.old outcome.old result next.new outcome.new }
 {
     let n = call.contents.scalars;
     if range_map_epoch == 0 {
@@ -158,7 +131,6 @@ pub fn observe_range_map_epoch(
     if range_map_epoch < n.range_map_epoch {
         return Err(Refusal::RangeMapEpochRetreated);
     }
-    let tables = call.contents.tables;
     let contents = Contents {
         scalars: Scalars {
             term: call.context.position.term,
@@ -166,20 +138,9 @@ pub fn observe_range_map_epoch(
             range_map_epoch,
             ..n
         },
-        ..call.contents
+        ..*call.contents
     };
-    let first = tables[image::INTENTS];
+    let first = call.contents.tables[image::INTENTS];
     let body = [Part::First(first.at, call.image.len())];
-    next::emit(
-        call,
-        Change {
-            from: call.image,
-            contents,
-            body: &body,
-            stored: call.image,
-            told: PublicationOutcome::Applied,
-        },
-        next,
-        outcome,
-    )
+    next::emit_applied(call, &contents, &body, next, outcome)
 }

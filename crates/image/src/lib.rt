@@ -24,7 +24,7 @@ use std::array;
 use std::marker::Model;
 
 // An entry of the contents: where a body starts, its bytes, and its rows. The scalars count as one row.
-#[derive(Clone, Copy, Default)]
+#[derive(Clone, Copy, Debug, Default, PartialEq, Eq)]
 pub struct Table {
     pub at: usize,
     pub size: usize,
@@ -32,14 +32,14 @@ pub struct Table {
 }
 
 // A text's bytes, by place.
-#[derive(Clone, Copy)]
+#[derive(Clone, Copy, Debug, PartialEq, Eq)]
 pub struct TextAt {
     pub at: usize,
     pub len: usize,
 }
 
 // The scalars, in the order of the state's fields.
-#[derive(Clone, Copy, Default)]
+#[derive(Clone, Copy, Debug, Default, PartialEq, Eq)]
 pub struct Scalars {
     pub term: u64,
     pub index: u64,
@@ -71,7 +71,7 @@ pub const JOBS: usize = 5;
 
 pub const TABLES: usize = 6;
 
-#[derive(Clone, Copy, Default)]
+#[derive(Clone, Copy, Debug, Default, PartialEq, Eq)]
 pub struct Contents {
     pub format_version: u32,
     pub scalars: Scalars,
@@ -79,14 +79,14 @@ pub struct Contents {
 }
 
 // How many bytes the count of an entry has.
-#[derive(Clone, Copy)]
+#[derive(Clone, Copy, Debug, PartialEq, Eq)]
 pub enum CountWidth {
     One = 1,
     Two = 2,
 }
 
 // A form as the code has it: how wide the counts of its entries are, and the most rows of each table.
-#[derive(Clone, Copy)]
+#[derive(Clone, Copy, Debug, PartialEq, Eq)]
 pub struct Layout {
     pub counts: CountWidth,
     pub most: [usize; TABLES],
@@ -262,7 +262,7 @@ fn scalars_end(entry: Table, s: &[u8], at: usize) -> Result<usize, Refusal>
 }
 
 // The shape of the rows of a table.
-fn row_shape(table: usize) -> &'static [Code]
+pub fn row_shape(table: usize) -> &'static [Code]
     ensures { result.now ≡ row_codes table }
 {
     match table {

@@ -124,8 +124,8 @@ module _ {x : List ℕ} {c : Contents} {q : List ℕ} {ctx : ContextAt} {f : Fau
           root-there = located_as roots ed found-root
 
           -- ---- the tests
-          module _ (stored rest shown key old : List ℕ) (stored_is : stored ≡ run x p.start (p.end - p.start)) (rest-is : rest ≡ run stored (length id + 1) (length stored))
-              (shown-is : shown ≡ run q last (length q)) (key-is : key ≡ manifest.key) (old-is : old ≡ run x o.start (o.end - o.start))
+          module _ (stored rest shown old : List ℕ) (stored_is : stored ≡ run x p.start (p.end - p.start)) (rest-is : rest ≡ run stored (length id + 1) (length stored))
+              (shown-is : shown ≡ run q last (length q)) (old-is : old ≡ run x o.start (o.end - o.start))
             where
               rest-held : rest ≡ held_intent (lookup name st.intents)
               rest-held =
@@ -137,7 +137,7 @@ module _ {x : List ℕ} {c : Contents} {q : List ℕ} {ctx : ContextAt} {f : Fau
               within_it = intent-within st.intents (stored_in intents st ready.formed) name
 
               abbrev tests : List Refusal
-              tests = publish_tests q a rest shown key dest given (drop (length dest + 1) old) ctx.generation f
+              tests = publish_tests q a rest shown manifest.key root given (drop (length root + 1) old) ctx.generation f
 
               tests_agree : Agrees tests asked
               unfolding act publish
@@ -146,12 +146,12 @@ module _ {x : List ℕ} {c : Contents} {q : List ℕ} {ctx : ContextAt} {f : Fau
                   then refl
                   then refl
                   then refl
-                  then (λ i. differs_in (rest-held i) ((shown-is ∙ last-here q option_place expected manifest after_root last last-is) i) (ed i) (given_is i) (key-is i))
+                  then (λ i. differs_in (rest-held i) ((shown-is ∙ last-here q option_place expected manifest after_root last last-is) i) root (given_is i) manifest.key)
                   ∙ differs_is manifest root expected ready.within.1.1.1.1 ready.within.1.1.1.0 (lookup name st.intents) within_it
                   then ap (λ (l : List ℕ). crosses_in f.allow_cross_generation_intent l ctx.generation) rest-held
                   ∙ crosses_is f.allow_cross_generation_intent ctx.generation (lookup name st.intents) within_it
                   then ap (missing_in f.publish_without_intent) rest-held ∙ missing_is f.publish_without_intent (lookup name st.intents) within_it
-                  then (λ i. not f.ignore_root_compare && not (same_of (drop (length (ed i) + 1) (old-is i)) ((ap (drop 1) given_is ∙ option-held expected) i)))
+                  then (λ i. not f.ignore_root_compare && not (same_of (drop (length root + 1) (old-is i)) ((ap (drop 1) given_is ∙ option-held expected) i)))
                   ∙ ap (λ (t : Bool). not f.ignore_root_compare && not t) (root-same ready.holds ready.formed expected ready.within.1.1.1.0 root-there)
                   then tt
 

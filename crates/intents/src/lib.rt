@@ -1,49 +1,43 @@
 // Publications: prepare and publish.
 #![tactic(auto)]
 
-ghost use Rattle.std.specs.Prelude.{◌≡◌, not, ◌&&◌, drop};
+ghost use Rattle.std.specs.Prelude.{◌≡◌, ◌+◌, not, ◌&&◌, drop, length};
 ghost use Rattle.refusals.specs.Numbers.{told};
 ghost use Rattle.text.specs.Same.{same_of};
 ghost use Rattle.fields.specs.Codes.{skip};
 ghost use Rattle.requests.specs.declared.PublicationAction.{PublicationAction};
+ghost use Rattle.requests.specs.Meaning.{text_of};
 ghost use Rattle.machine.specs.Tests.{first_of};
 ghost use Rattle.next.specs.Call.{Asks, Answers};
+ghost use Rattle.next.specs.Rows.{table_of};
 ghost use Rattle.intents.specs.Tests.{matches_in, differs_in, crosses_in, missing_in, prepare_tests, publish_tests};
 
 use fields::Code;
-use image::Table;
-use next::{Call, Change, PublicationOutcome};
+use next::Call;
 use parts::{Lengths, Part};
 use refusals::Refusal;
-use requests::{Prepare, PublicationAuthorityFaults, Publish};
+use requests::{Prepare, Publish};
 use tables::Place;
 
 // The first test that refuses to prepare; `place` is that of the id among the intents.
 #[tactic(auto, unfolding(machine::specs::Tests::first_of))]
-fn prepare_refusal(
-    image: &[u8],
-    reservations: Table,
-    request: &[u8],
-    f: PublicationAuthorityFaults,
-    a: Prepare,
-    place: Place,
-) -> Result<(), Refusal>
-    ensures { told result ≡ first_of (prepare_tests image.now reservations request.now f a place) }
+fn prepare_refusal(call: &Call<'_>, a: &Prepare, place: Place) -> Result<(), Refusal>
+    ensures { told result ≡ first_of (prepare_tests call.now.image.now (table_of call.now 3) call.now.request.now call.now.faults a.now place) }
 {
-    if records::is_empty(request, a.publication_id) {
+    if records::is_empty(call.request, a.publication_id) {
         return Err(Refusal::InvalidRequest);
     }
-    if !records::valid_intent(request, a.intent) {
+    if !records::valid_intent(call.request, a.intent) {
         return Err(Refusal::InvalidRequest);
     }
     if place.start < place.end {
         return Err(Refusal::PublicationExists);
     }
     if reserved::is_reserved(
-        f.ignore_delete_reservation,
-        image,
-        reservations,
-        request,
+        call.faults.ignore_delete_reservation,
+        call.image,
+        call.contents.tables[image::RESERVATIONS],
+        call.request,
         a.intent.object_keys.at,
     ) {
         return Err(Refusal::ObjectDeletionReserved);
@@ -52,21 +46,19 @@ fn prepare_refusal(
 }
 
 pub fn prepare(
-    call: Call<'_>,
-    a: Prepare,
+    call: &Call<'_>,
+    a: &Prepare,
     next: &mut [u8],
     outcome: &mut [u8],
 ) -> Result<Lengths, Refusal>
-    requires { Asks call (PublicationAction.Prepare a) }
-    ensures { Answers call.entry next.old outcome.old result next.new outcome.new }
+    requires { Asks call.now (PublicationAction.Prepare a.now) }
+    ensures { Answers call.now next.old outcome.old result next.new outcome.new }
 {
-    let tables = call.contents.tables;
-    let intents = tables[image::INTENTS];
-    let reservations = tables[image::RESERVATIONS];
     let id = requests::text_of(call.request, a.publication_id);
     let first = id.len() + 1;
-    let p = tables::locate(&image::INTENT, call.image, intents.at, intents.count, id);
-    prepare_refusal(call.image, reservations, call.request, call.faults, a, p)?;
+    let p = call.locate(image::INTENTS, id);
+    prepare_refusal(call, a, p)?;
+    let intents = call.contents.tables[image::INTENTS];
     let bytes = first + 8 + call.request.len().saturating_sub(27 + first);
     let after = edits::after_insert(intents, p, bytes);
     let mut d = next::raised(call.contents, call.context.position);
@@ -78,19 +70,7 @@ pub fn prepare(
         Part::Second(27 + first, call.request.len()),
         Part::First(p.end, call.image.len()),
     ];
-    let told = PublicationOutcome::Applied;
-    next::emit(
-        call,
-        Change {
-            from: call.image,
-            contents: d,
-            body: &body,
-            stored: call.image,
-            told,
-        },
-        next,
-        outcome,
-    )
+    next::emit_applied(call, &d, &body, next, outcome)
 }
 
 // What is left of a record after its first fields.
@@ -152,96 +132,77 @@ fn root_differs(ignore: bool, row: &[u8], first: usize, prior: &[u8]) -> bool
 }
 
 // The first test that refuses to publish: `row` is what the stored intent holds after its id, `old` the
-// stored root's row, whose first bytes are its id; `manifest`, `key`, `root` and `prior` stand in the request.
-#[tactic(auto, unfolding(machine::specs::Tests::first_of))]
+// stored root's row, whose first bytes are its id; `manifest` and `prior` stand in the request.
+#[tactic(auto, using(crate::proofs::Steps::no_bytes), unfolding(machine::specs::Tests::first_of))]
 fn publish_refusal(
-    request: &[u8],
-    a: Publish,
+    call: &Call<'_>,
+    a: &Publish,
     row: &[u8],
     manifest: &[u8],
-    key: &[u8],
-    root: &[u8],
     prior: &[u8],
     old: &[u8],
-    first: usize,
-    generation: u64,
-    f: PublicationAuthorityFaults,
 ) -> Result<(), Refusal>
-    ensures { told result ≡ first_of (publish_tests request.now a row.now manifest.now key.now root.now prior.now (drop first old.now) generation f) }
+    ensures { told result ≡ first_of (publish_tests call.now.request.now a.now row.now manifest.now (text_of call.now.request.now a.now.manifest.key) (text_of call.now.request.now a.now.destination_root)
+        prior.now (drop (length (text_of call.now.request.now a.now.destination_root) + 1) old.now) call.now.context.generation call.now.faults) }
 {
-    if records::is_empty(request, a.publication_id) {
+    let root = requests::text_of(call.request, a.destination_root);
+    let key = requests::text_of(call.request, a.manifest.key);
+    if records::is_empty(call.request, a.publication_id) {
         return Err(Refusal::InvalidRequest);
     }
-    if records::is_empty(request, a.destination_root) {
+    if root.is_empty() {
         return Err(Refusal::InvalidRequest);
     }
     if !records::is_manifest(a.manifest) {
         return Err(Refusal::InvalidRequest);
     }
-    if !records::valid_reference(request, a.manifest) {
+    if !records::valid_reference(call.request, a.manifest) {
         return Err(Refusal::InvalidRequest);
     }
     if intent_differs(row, manifest, root, prior, key) {
         return Err(Refusal::PublicationIntentMismatch);
     }
-    if intent_crosses(f.allow_cross_generation_intent, row, generation) {
+    if intent_crosses(
+        call.faults.allow_cross_generation_intent,
+        row,
+        call.context.generation,
+    ) {
         return Err(Refusal::CrossGenerationIntent);
     }
-    if intent_missing(f.publish_without_intent, row) {
+    if intent_missing(call.faults.publish_without_intent, row) {
         return Err(Refusal::PublicationIntentMissing);
     }
-    if root_differs(f.ignore_root_compare, old, first, prior) {
+    if root_differs(call.faults.ignore_root_compare, old, root.len() + 1, prior) {
         return Err(Refusal::RootCompareFailed);
     }
     Ok(())
 }
 
 pub fn publish(
-    call: Call<'_>,
-    a: Publish,
+    call: &Call<'_>,
+    a: &Publish,
     next: &mut [u8],
     outcome: &mut [u8],
 ) -> Result<Lengths, Refusal>
-    requires { Asks call (PublicationAction.Publish a) }
-    ensures { Answers call.entry next.old outcome.old result next.new outcome.new }
+    requires { Asks call.now (PublicationAction.Publish a.now) }
+    ensures { Answers call.now next.old outcome.old result next.new outcome.new }
 {
-    let tables = call.contents.tables;
-    let intents = tables[image::INTENTS];
-    let roots = tables[image::ROOTS];
     let id = requests::text_of(call.request, a.publication_id);
     let root = requests::text_of(call.request, a.destination_root);
     let first = id.len() + 1;
     let second = root.len() + 1;
     let prior = publication::option_at(call.request, 27 + first + second);
     let m = 27 + first + second + prior.len();
-    let p = tables::locate(&image::INTENT, call.image, intents.at, intents.count, id);
-    let o = tables::locate(
-        &image::REFERENCE_ROW,
-        call.image,
-        roots.at,
-        roots.count,
-        root,
-    );
+    let p = call.locate(image::INTENTS, id);
+    let o = call.locate(image::ROOTS, root);
     let stored = tables::row(call.image, p);
     let rest = parts::clip(stored, first, stored.len());
     let shown = parts::clip(call.request, m, call.request.len());
-    let key = requests::text_of(call.request, a.manifest.key);
-    publish_refusal(
-        call.request,
-        a,
-        rest,
-        shown,
-        key,
-        root,
-        prior,
-        tables::row(call.image, o),
-        second,
-        call.context.generation,
-        call.faults,
-    )?;
+    publish_refusal(call, a, rest, shown, prior, tables::row(call.image, o))?;
+    let intents = call.contents.tables[image::INTENTS];
     let bytes = second + call.request.len().saturating_sub(m);
     let fewer = edits::after_remove(intents, p);
-    let more = edits::after_insert(roots, o, bytes);
+    let more = edits::after_insert(call.contents.tables[image::ROOTS], o, bytes);
     let mut d = next::raised(call.contents, call.context.position);
     d.tables[image::INTENTS] = fewer;
     d.tables[image::ROOTS] = more;
@@ -252,17 +213,5 @@ pub fn publish(
         Part::Second(m, call.request.len()),
         Part::First(o.end, call.image.len()),
     ];
-    let told = PublicationOutcome::Applied;
-    next::emit(
-        call,
-        Change {
-            from: call.image,
-            contents: d,
-            body: &body,
-            stored: call.image,
-            told,
-        },
-        next,
-        outcome,
-    )
+    next::emit_applied(call, &d, &body, next, outcome)
 }

@@ -16,7 +16,7 @@ use Rattle.fields.specs.Format.{enc}
 use Rattle.fields.specs.Codes.{codes}
 use Rattle.tables.specs.Seek.{rows_at}
 use Rattle.tables.specs.declared.Place.{Place}
-use Rattle.image.specs.Layout.{reservations, leases}
+use Rattle.image.specs.Layout.{leases}
 use Rattle.image.specs.Front.{Small}
 use Rattle.image.specs.Opened.{measures_in, Shows, Holds}
 use Rattle.image.specs.Shapes.{lease, lease_parts, closure_parts}
@@ -52,7 +52,7 @@ use Rattle.edits.specs.Changes.{after_insert}
 use Rattle.edits.specs.PlaceLaws.{Located, table_bounds, spot, missing, held, inserted_shown, inserted_tables}
 use Rattle.leases.specs.Tests.{acquire_tests}
 use Rattle.leases.specs.Oldest.{oldest-insert}
-use Rattle.leases.specs.Leased.{Leased, recomputed, small-leases}
+use Rattle.leases.specs.Leased.{leased, recomputed, small-leases}
 use Rattle.leases.specs.Asked.{a as front_of, b as back-of, front_length, halves_length, asked-gathers, asked-length}
 
 -- A CALL OF IT
@@ -94,7 +94,7 @@ module _ {x : List ℕ} {c : Contents} {q : List ℕ} {a : ContextAt} {f : Fault
     h = ready.holds
 
     abbrev tests : List Refusal
-    tests = acquire_tests x c.scalars (table_in reservations c) q f l place
+    tests = acquire_tests x c q f l place
 
     known : ltb place.start place.end ≡ has_key (text_of q l.lease_id) ready.state.leases
     known =
@@ -187,24 +187,25 @@ module _ {x : List ℕ} {c : Contents} {q : List ℕ} {a : ContextAt} {f : Fault
         (λ i. first-is i + second_is i + 32)
         ∙ sym (asked-length q key (text_of q l.tenant_id) l.snapshot_version (text_of q l.owner) (text_of q l.purpose) l.deadline_tick (closure_of q l.closure) (here r) r.state (context_of a))
 
-    module _ {root-epoch policy readable epoch : ℕ} {t : Table} {d : Contents} (ld : Leased c a root-epoch policy readable c.scalars.lease_clock_tick epoch t d) (more : t ≡ after_insert (table_in leases c) place (first + second + 32)) where
-      pub acquire-small : Small d
-      acquire-small = small-leases (small-held r.formed r.holds r.short) ld (omega (arith, ap (λ (u : Table). u.size) more, (table_bounds r.holds leases).0, r.short, runs_low))
+    module _ {root-epoch policy readable epoch : ℕ} {t : Table} (more : t ≡ after_insert (table_in leases c) place (first + second + 32)) where
+      pub acquire-small : Small (leased c a root-epoch policy readable c.scalars.lease_clock_tick epoch t)
+      acquire-small = small-leases (small-held r.formed r.holds r.short) a t (omega (arith, ap (λ (u : Table). u.size) more, (table_bounds r.holds leases).0, r.short, runs_low))
 
       pub acquire-shows : {old candidate : ℕ}
           → epoch ≡ up c.scalars.lease_epoch
           → root-epoch ≡ cond f.omit_lease_root_epoch c.scalars.root_intent_epoch (up c.scalars.root_intent_epoch)
           → policy ≡ policy_for c.scalars.retention_window c.scalars.observed_commit_frontier c.scalars.policy_floor
           → old ≡ oldest_at policy (rows_at (codes lease) (table_in leases c).count (drop (table_in leases c).at x))
-          → candidate ≡ min l.snapshot_version old
+          → candidate ≡ min old l.snapshot_version
           → readable ≡ readable_for_window c.scalars.retention_window candidate c.scalars.minimum_readable_version
-          → Shows x d (set_revision (position_of a.position) (acquired r.state key (new r) f.omit_lease_root_epoch))
-      acquire-shows ee er p k v u =
+          → Shows x (leased c a root-epoch policy readable c.scalars.lease_clock_tick epoch t) (set_revision (position_of a.position) (acquired r.state key (new r) f.omit_lease_root_epoch))
+      acquire-shows {old} ee er p k v u =
           let h = r.holds in
-          recomputed h (insert key (new r) r.state.leases) ld
+          let least : min old l.snapshot_version ≡ min l.snapshot_version old = omega arith in
+          recomputed h a (insert key (new r) r.state.leases) t
           (ap (λ (u : Table). measures_in (set c.tables (index leases) u)) more ∙ inserted_shown h r.formed leases g.found (new r) (first + second + 32) row-size)
           (er ∙ ap (λ (n : ℕ). cond f.omit_lease_root_epoch n (up n)) (number_is h 2)) (number_is h 8) (ee ∙ ap up (number_is h 9)) p
-          (v ∙ ap (min l.snapshot_version) (k ∙ oldest-here h r.formed policy)
+          (v ∙ least ∙ ap (min l.snapshot_version) (k ∙ oldest-here h r.formed policy)
           ∙ sym (oldest-insert key (new r) r.state.leases policy (none-there (spot h r.formed leases g.found) g.free).0)) u
 
     -- what is written in its place

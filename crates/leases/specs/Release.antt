@@ -35,7 +35,7 @@ use Rattle.edits.specs.Changes.{after_remove}
 use Rattle.edits.specs.PlaceLaws.{Located, Held, table_bounds, missing, held, removed_shown}
 use Rattle.leases.specs.Rows.{epoch-row}
 use Rattle.leases.specs.Oldest.{named, oldest_kept, without-here}
-use Rattle.leases.specs.Leased.{Leased, recomputed, small-leases}
+use Rattle.leases.specs.Leased.{leased, recomputed, small-leases}
 use Rattle.leases.specs.Tests.{release_tests}
 use Rattle.leases.specs.RowLaws.{no_row, a-row}
 
@@ -81,9 +81,9 @@ module _ {x : List ℕ} {c : Contents} {q : List ℕ} {a : ContextAt} {f : Fault
         release-taken z = let v = stands (first-passed tests asked tests_agree n told z).0 in first_decides tests asked tests_agree n told z _ (v.value, v.looked, refl)
 
     -- what the code has computed by the end
-    module _ {root-epoch policy readable epoch : ℕ} {t : Table} {d : Contents} (ld : Leased c a root-epoch policy readable c.scalars.lease_clock_tick epoch t d) (left : t ≡ after_remove (table_in leases c) place) where
-      pub release-small : Small d
-      release-small = small-leases (small-held ready.formed ready.holds ready.short) ld (omega (arith, ap (λ (u : Table). u.size) left, (table_bounds ready.holds leases).0, ready.short))
+    module _ {root-epoch policy readable epoch : ℕ} {t : Table} (left : t ≡ after_remove (table_in leases c) place) where
+      pub release-small : Small (leased c a root-epoch policy readable c.scalars.lease_clock_tick epoch t)
+      release-small = small-leases (small-held ready.formed ready.holds ready.short) a t (omega (arith, ap (λ (u : Table). u.size) left, (table_bounds ready.holds leases).0, ready.short))
 
       pub release-shows : {text : Text} → text ≡ id → {candidate : ℕ}
           → epoch ≡ up c.scalars.lease_epoch
@@ -91,9 +91,9 @@ module _ {x : List ℕ} {c : Contents} {q : List ℕ} {a : ContextAt} {f : Fault
           → policy ≡ policy_for c.scalars.retention_window c.scalars.observed_commit_frontier c.scalars.policy_floor
           → candidate ≡ oldest_kept (named text) policy (rows_at (codes lease) (table_in leases c).count (drop (table_in leases c).at x))
           → readable ≡ readable_for_window c.scalars.retention_window candidate c.scalars.minimum_readable_version
-          → Shows x d (set_revision (position_of a.position) (released s id f.omit_lease_root_epoch))
+          → Shows x (leased c a root-epoch policy readable c.scalars.lease_clock_tick epoch t) (set_revision (position_of a.position) (released s id f.omit_lease_root_epoch))
       release-shows i ee er p k r =
           let h = ready.holds in
-          recomputed h (remove id s.leases) ld (ap (λ (u : Table). measures_in (set c.tables (index leases) u)) left ∙ removed_shown h ready.formed leases found)
+          recomputed h a (remove id s.leases) t (ap (λ (u : Table). measures_in (set c.tables (index leases) u)) left ∙ removed_shown h ready.formed leases found)
           (er ∙ ap (λ (n : ℕ). cond f.omit_lease_root_epoch n (up n)) (number_is h 2)) (number_is h 8) (ee ∙ ap up (number_is h 9)) p
           (k ∙ ap (λ (t : Text). oldest_kept (named t) policy (rows_at (codes lease) (table_in leases c).count (drop (table_in leases c).at x))) i ∙ without-here h ready.formed id policy) r

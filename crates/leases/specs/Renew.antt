@@ -15,7 +15,7 @@ use Rattle.state.specs.Setters.{set_revision}
 use Rattle.fields.specs.Format.{◌▹◌, enc}
 use Rattle.fields.proofs.FormatLaws.{dec-enc}
 use Rattle.tables.specs.declared.Place.{Place}
-use Rattle.image.specs.Layout.{reservations, leases}
+use Rattle.image.specs.Layout.{leases}
 use Rattle.image.specs.Front.{Small}
 use Rattle.image.specs.Opened.{measures_in, Shows}
 use Rattle.image.specs.Shapes.{u64, name, position, closure, lease, lease_parts, lease_from}
@@ -50,7 +50,7 @@ use Rattle.edits.specs.Changes.{after_insert}
 use Rattle.edits.specs.PlaceLaws.{Located, Held, table_bounds, spot, missing, held, inserted_shown, inserted_tables}
 use Rattle.leases.specs.Tests.{renew_tests}
 use Rattle.leases.specs.RowLaws.{no_row, a-row, row-long}
-use Rattle.leases.specs.Leased.{Leased, leases-shown, small-leases}
+use Rattle.leases.specs.Leased.{leased, leases-shown, small-leases}
 use Rattle.leases.specs.Runs.{a as before-epoch-of, b as names_of, d as closure_from, a-length, b-length, renewed-length, renewed-gathers}
 
 -- A CALL OF IT, by the place where the id stands or would stand
@@ -96,7 +96,7 @@ module _ {x : List ℕ} {c : Contents} {q : List ℕ} {a : ContextAt} {f : Fault
     {place : Place} (found : Located leases x c (text_of q l.lease_id) place) {row : List ℕ} (row_is : row ≡ run x place.start (place.end - place.start)) {now : LeaseTokenAt} (read : now ≡ lease_token_in row 0)
   where
     abbrev tests : List Refusal
-    tests = renew_tests x c.scalars.lease_clock_tick (table_in reservations c) l row now
+    tests = renew_tests x c l row now
 
     tests_agree : Agrees tests (asked ready found)
     unfolding act renew_lease
@@ -216,22 +216,20 @@ module _ {x : List ℕ} {c : Contents} {q : List ℕ} {a : ContextAt} {f : Fault
       let size = r.short in
       (omega arith, omega (arith, deadline-place, end_is), omega (arith, end_is), omega arith, omega arith)
 
-  module _ {root-epoch epoch : ℕ} {t : Table} {d : Contents} (ld : Leased c a root-epoch c.scalars.policy_floor c.scalars.minimum_readable_version c.scalars.lease_clock_tick epoch t d)
-      (same : t ≡ after_insert (table_in leases c) place (length row))
-    where
-      pub renew-small : Small d
-      renew-small = small-leases (small-held r.formed r.holds r.short) ld (omega (arith, ap (λ (u : Table). u.size) same, (table_bounds r.holds leases).0, r.short, ends_low.4))
+  module _ {root-epoch epoch : ℕ} {t : Table} (same : t ≡ after_insert (table_in leases c) place (length row)) where
+    pub renew-small : Small (leased c a root-epoch c.scalars.policy_floor c.scalars.minimum_readable_version c.scalars.lease_clock_tick epoch t)
+    renew-small = small-leases (small-held r.formed r.holds r.short) a t (omega (arith, ap (λ (u : Table). u.size) same, (table_bounds r.holds leases).0, r.short, ends_low.4))
 
-      pub renew-shows : epoch ≡ up c.scalars.lease_epoch
-          → root-epoch ≡ cond f.omit_lease_root_epoch c.scalars.root_intent_epoch (up c.scalars.root_intent_epoch)
-          → Shows x d (set_revision (position_of a.position) (renewed r.state key new f.omit_lease_root_epoch))
-      unfolding token
-      renew-shows ee er =
-          let h = r.holds in
-          leases-shown h (insert key new r.state.leases) ld
-          (ap (λ (u : Table). measures_in (set c.tables (index leases) u)) same
-          ∙ inserted_shown h r.formed leases g.found new (length row) (ap length row_bytes ∙ sym (renewed-length old r.state l.new_deadline_tick (context_of a))))
-          (er ∙ ap (λ (n : ℕ). cond f.omit_lease_root_epoch n (up n)) (number_is h 2)) (number_is h 8) (ee ∙ ap up (number_is h 9)) (number_is h 5) (number_is h 6)
+    pub renew-shows : epoch ≡ up c.scalars.lease_epoch
+        → root-epoch ≡ cond f.omit_lease_root_epoch c.scalars.root_intent_epoch (up c.scalars.root_intent_epoch)
+        → Shows x (leased c a root-epoch c.scalars.policy_floor c.scalars.minimum_readable_version c.scalars.lease_clock_tick epoch t) (set_revision (position_of a.position) (renewed r.state key new f.omit_lease_root_epoch))
+    unfolding token
+    renew-shows ee er =
+        let h = r.holds in
+        leases-shown h a (insert key new r.state.leases) t
+        (ap (λ (u : Table). measures_in (set c.tables (index leases) u)) same
+        ∙ inserted_shown h r.formed leases g.found new (length row) (ap length row_bytes ∙ sym (renewed-length old r.state l.new_deadline_tick (context_of a))))
+        (er ∙ ap (λ (n : ℕ). cond f.omit_lease_root_epoch n (up n)) (number_is h 2)) (number_is h 8) (ee ∙ ap up (number_is h 9)) (number_is h 5) (number_is h 6)
 
   -- what is written in place of the record, n₁, n₂ and n₃ bytes of it staying
   module _ {rest epoch n₁ n₂ n₃ : ℕ} (s₁ : rest ≡ Rest) (next : epoch ≡ up c.scalars.lease_epoch) (e₁ : n₁ ≡ rest - 8) (e₂ : n₂ ≡ Deadline - rest) (e₃ : n₃ ≡ End - (Deadline + 8)) where

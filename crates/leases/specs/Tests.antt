@@ -3,8 +3,9 @@ use Rattle.std.specs.Prelude.{ℕ, is_none, not, ◌&&◌, List, [], ◌∷◌, 
 use Rattle.state.specs.Maps.{is_empty}
 use Rattle.state.specs.Records.{valid_closure}
 use Rattle.tables.specs.declared.Place.{Place}
-use Rattle.image.specs.declared.Scalars.{Scalars}
-use Rattle.image.specs.declared.Table.{Table}
+use Rattle.image.specs.Layout.{reservations}
+use Rattle.image.specs.TableLaws.{table_in}
+use Rattle.image.specs.declared.Contents.{Contents}
 use Rattle.machine.specs.Tests.{Refusal, ◌when◌}
 use Rattle.requests.specs.Meaning.{text_of, keys_of, closure_of}
 use Rattle.requests.specs.declared.AcquireLease.{AcquireLease}
@@ -14,30 +15,30 @@ use Rattle.requests.specs.declared.SnapshotLeaseToken.{SnapshotLeaseToken}
 use Rattle.reserved.specs.Located.{reserved_in}
 
 -- a lease stands under the id where its place has an end past its start
-abbrev pub acquire_tests : List ℕ → Scalars → (reservations : Table) → List ℕ → PublicationAuthorityFaults → AcquireLease → Place → List Refusal
-acquire_tests x n reservations q f l place =
+abbrev pub acquire_tests : List ℕ → Contents → List ℕ → PublicationAuthorityFaults → AcquireLease → Place → List Refusal
+acquire_tests x c q f l place =
     (2 when is_empty (text_of q l.lease_id))
     ∷ (2 when is_empty (text_of q l.tenant_id))
     ∷ (2 when eqb l.snapshot_version 0)
     ∷ (2 when is_empty (text_of q l.owner))
     ∷ (2 when is_empty (text_of q l.purpose))
     ∷ (2 when not (valid_closure (closure_of q l.closure)))
-    ∷ (18 when is_none n.retention_window)
+    ∷ (18 when is_none c.scalars.retention_window)
     ∷ (21 when ltb place.start place.end)
-    ∷ (19 when not f.accept_backdated_lease && ltb l.snapshot_version n.minimum_readable_version)
-    ∷ (20 when ltb n.observed_commit_frontier l.snapshot_version)
-    ∷ (24 when leb l.deadline_tick n.lease_clock_tick)
-    ∷ (10 when reserved_in x reservations (keys_of q l.closure.object_keys))
+    ∷ (19 when not f.accept_backdated_lease && ltb l.snapshot_version c.scalars.minimum_readable_version)
+    ∷ (20 when ltb c.scalars.observed_commit_frontier l.snapshot_version)
+    ∷ (24 when leb l.deadline_tick c.scalars.lease_clock_tick)
+    ∷ (10 when reserved_in x (table_in reservations c) (keys_of q l.closure.object_keys))
     ∷ []
 
 -- the row stored under the id, none where it is empty, and the lease read from it
-abbrev pub renew_tests : List ℕ → (clock : ℕ) (reservations : Table) → RenewLease → (row : List ℕ) → SnapshotLeaseToken → List Refusal
-renew_tests x clock reservations l row held =
+abbrev pub renew_tests : List ℕ → Contents → RenewLease → (row : List ℕ) → SnapshotLeaseToken → List Refusal
+renew_tests x c l row held =
     (22 when eqb (length row) 0)
     ∷ (23 when not (eqb held.lease_epoch l.expected_lease_epoch))
-    ∷ (24 when leb l.new_deadline_tick clock)
+    ∷ (24 when leb l.new_deadline_tick c.scalars.lease_clock_tick)
     ∷ (24 when leb l.new_deadline_tick held.deadline_tick)
-    ∷ (10 when reserved_in x reservations (keys_of row held.closure.object_keys))
+    ∷ (10 when reserved_in x (table_in reservations c) (keys_of row held.closure.object_keys))
     ∷ []
 
 -- the row, and the epoch read from it

@@ -1,29 +1,23 @@
 // The actions on one lease by its id: acquire, renew, release.
 #![tactic(auto)]
 
-ghost use Rattle.std.specs.Prelude.{cond, not, ◌&&◌, ◌≡◌, min, ltb, length, drop};
+ghost use Rattle.std.specs.Prelude.{cond, ◌≡◌, min};
 ghost use Rattle.refusals.specs.Numbers.{told};
-ghost use Rattle.fields.specs.Codes.{codes};
-ghost use Rattle.image.specs.Shapes.{lease};
-ghost use Rattle.tables.specs.Seek.{rows_at};
+ghost use Rattle.tables.specs.Seek.{rows_left};
 ghost use Rattle.machine.specs.Tests.{first_of};
 ghost use Rattle.requests.specs.declared.PublicationAction.{PublicationAction};
 ghost use Rattle.next.specs.Call.{Asks, Answers};
 ghost use Rattle.leases.specs.Oldest.{named, oldest_kept};
-ghost use Rattle.leases.specs.Leased.{Leased};
 ghost use Rattle.leases.specs.Tests.{acquire_tests, renew_tests, release_tests};
 ghost use Rattle.leases.specs.Acquire.{Acquiring};
 ghost use Rattle.leases.specs.Renew.{Renewing};
 
-use image::{Contents, Scalars, Table};
+use image::{Contents, Scalars};
 use next::{Call, Change, PublicationOutcome};
 use parts::{Lengths, Part};
 use refusals::Refusal;
-use requests::{
-    AcquireLease, AuthorityContext, PublicationAuthorityFaults, ReleaseLease, RenewLease,
-    SnapshotLeaseToken,
-};
-use tables::Place;
+use requests::{AcquireLease, ReleaseLease, RenewLease, SnapshotLeaseToken};
+use tables::{Place, TableRows};
 
 // The smaller of m and the version, or m where the lease is gone.
 pub fn older(gone: bool, version: u64, m: u64) -> u64
@@ -32,13 +26,13 @@ pub fn older(gone: bool, version: u64, m: u64) -> u64
     if gone { m } else { version.min(m) }
 }
 
-// The smallest of floor and the versions of n leases that stand at a place, but for the lease with an id.
+// The smallest of floor and the versions of some leases, but for the lease with an id.
 #[tactic(auto, using(crate::specs::Oldest::kept_steps))]
-fn oldest_without(s: &[u8], at: usize, n: usize, id: &[u8], floor: u64) -> u64
-    ensures { result ≡ oldest_kept (named id.now) floor (rows_at (codes lease) n (drop at s.now)) }
+fn oldest_without(leases: TableRows<'_>, id: &[u8], floor: u64) -> u64
+    ensures { result ≡ oldest_kept (named id.now) floor (rows_left leases.entry) }
 {
     let mut oldest = floor;
-    for lease in tables::rows(&image::LEASE, s, at, n) {
+    for lease in leases {
         oldest = older(
             text::same(id, fields::text_at(lease, 0)),
             tables::number_after(&image::LEASE[..image::LEASE_VERSION], lease, 0),
@@ -48,70 +42,19 @@ fn oldest_without(s: &[u8], at: usize, n: usize, id: &[u8], floor: u64) -> u64
     oldest
 }
 
-// The contents after a change of leases: the numbers that it sets, and the table.
-pub fn with_leases(
-    c: Contents,
-    x: AuthorityContext,
-    root_epoch: u64,
-    policy: u64,
-    readable: u64,
-    clock: u64,
-    epoch: u64,
-    t: Table,
-) -> Contents
-    ensures { Leased c x root_epoch policy readable clock epoch t result }
-{
-    let mut d = c;
-    d.scalars.term = x.position.term;
-    d.scalars.index = x.position.index;
-    d.scalars.root_intent_epoch = root_epoch;
-    d.scalars.policy_floor = policy;
-    d.scalars.minimum_readable_version = readable;
-    d.scalars.lease_clock_tick = clock;
-    d.scalars.lease_epoch = epoch;
-    d.tables[image::LEASES] = t;
-    d
-}
-
-fn below(accept: bool, version: u64, floor: u64) -> bool
-    ensures { result ≡ not accept && ltb version floor }
-{
-    !accept && version < floor
-}
-
 // The tests of AcquireLease. The place is that of its id.
-fn acquire_refusal(
-    image: &[u8],
-    n: Scalars,
-    reservations: Table,
-    request: &[u8],
-    f: PublicationAuthorityFaults,
-    a: AcquireLease,
-    p: Place,
-) -> Result<(), Refusal>
-    ensures { told result ≡ first_of (acquire_tests image.now n reservations request.now f a p) }
+#[tactic(auto, unfolding(machine::specs::Tests::first_of))]
+fn acquire_refusal(call: &Call<'_>, a: &AcquireLease, p: Place) -> Result<(), Refusal>
+    ensures { told result ≡ first_of (acquire_tests call.now.image.now call.now.contents.now call.now.request.now call.now.faults a.now p) }
 {
-    let id = a.lease_id;
-    if records::is_empty(request, id) {
-        return Err(Refusal::InvalidRequest);
-    }
-    let tenant = a.tenant_id;
-    if records::is_empty(request, tenant) {
-        return Err(Refusal::InvalidRequest);
-    }
-    if a.snapshot_version == 0 {
-        return Err(Refusal::InvalidRequest);
-    }
-    let owner = a.owner;
-    if records::is_empty(request, owner) {
-        return Err(Refusal::InvalidRequest);
-    }
-    let purpose = a.purpose;
-    if records::is_empty(request, purpose) {
-        return Err(Refusal::InvalidRequest);
-    }
-    let closure = a.closure;
-    if !records::valid_closure(request, closure) {
+    let n = call.contents.scalars;
+    if records::is_empty(call.request, a.lease_id)
+        || records::is_empty(call.request, a.tenant_id)
+        || a.snapshot_version == 0
+        || records::is_empty(call.request, a.owner)
+        || records::is_empty(call.request, a.purpose)
+        || !records::valid_closure(call.request, a.closure)
+    {
         return Err(Refusal::InvalidRequest);
     }
     if n.retention_window.is_none() {
@@ -120,19 +63,16 @@ fn acquire_refusal(
     if p.start < p.end {
         return Err(Refusal::LeaseExists);
     }
-    if below(
-        f.accept_backdated_lease,
-        a.snapshot_version,
-        n.minimum_readable_version,
-    ) {
+    if !call.faults.accept_backdated_lease && a.snapshot_version < n.minimum_readable_version {
         return Err(Refusal::SnapshotBelowFloor);
     }
     if n.observed_commit_frontier < a.snapshot_version {
         return Err(Refusal::SnapshotAheadOfFrontier);
     }
-    let keys = closure.object_keys;
+    let reservations = call.contents.tables[image::RESERVATIONS];
+    let keys = a.closure.object_keys.at;
     let late = a.deadline_tick <= n.lease_clock_tick;
-    let names_reserved = reserved::is_reserved(false, image, reservations, request, keys.at);
+    let names_reserved = reserved::is_reserved(false, call.image, reservations, call.request, keys);
     if late {
         return Err(Refusal::LeaseDeadlineInvalid);
     }
@@ -144,51 +84,44 @@ fn acquire_refusal(
 
 // The lease put in: the request's fields up to the version, the epoch, the rest of them, and the context.
 fn put_lease(
-    call: Call<'_>,
-    a: AcquireLease,
+    call: &Call<'_>,
+    a: &AcquireLease,
     p: Place,
     next: &mut [u8],
     outcome: &mut [u8],
 ) -> Result<Lengths, Refusal>
-    requires { Acquiring call.image.now call.contents call.request.now call.context call.faults a p }
-    ensures { Answers call.entry next.old outcome.old result next.new outcome.new }
+    requires { Acquiring call.now.image.now call.now.contents.now call.now.request.now call.now.context call.now.faults a.now p }
+    ensures { Answers call.now next.old outcome.old result next.new outcome.new }
 {
     let n = call.contents.scalars;
-    let tables = call.contents.tables;
-    let leases = tables[image::LEASES];
     let w = n.retention_window;
     let epoch = next::up(n.lease_epoch);
-    let root_epoch = next::up_unless(call.faults.omit_lease_root_epoch, n.root_intent_epoch);
     let policy = floor::policy_for(w, n.observed_commit_frontier, n.policy_floor);
-    let candidate = older(
-        false,
-        a.snapshot_version,
-        floor::oldest(call.image, leases.at, leases.count, policy),
-    );
-    let readable = floor::readable_for(w, candidate, n.minimum_readable_version);
-    let lease_id = a.lease_id;
-    let tenant_id = a.tenant_id;
-    let owner = a.owner;
-    let purpose = a.purpose;
-    let closure = a.closure;
-    let authority_position = call.context.position;
-    let keys = closure.object_keys;
-    let start = lease_id.at.saturating_sub(1);
-    let rest = owner.at.saturating_sub(1);
+    let candidate = floor::oldest(call.rows(image::LEASES), policy).min(a.snapshot_version);
+    let keys = a.closure.object_keys;
+    let start = a.lease_id.at.saturating_sub(1);
+    let rest = a.owner.at.saturating_sub(1);
     let first = rest.saturating_sub(start);
     let second = (keys.at + keys.len).saturating_sub(rest);
-    let table = edits::after_insert(leases, p, first + second + 32);
-    let d = with_leases(
-        call.contents,
-        call.context,
-        root_epoch,
-        policy,
-        readable,
-        n.lease_clock_tick,
-        epoch,
-        table,
-    );
+    let mut tables = call.contents.tables;
     let intents = tables[image::INTENTS];
+    tables[image::LEASES] = edits::after_insert(tables[image::LEASES], p, first + second + 32);
+    let contents = Contents {
+        scalars: Scalars {
+            term: call.context.position.term,
+            index: call.context.position.index,
+            root_intent_epoch: next::up_unless(
+                call.faults.omit_lease_root_epoch,
+                n.root_intent_epoch,
+            ),
+            policy_floor: policy,
+            minimum_readable_version: floor::readable_for(w, candidate, n.minimum_readable_version),
+            lease_epoch: epoch,
+            ..n
+        },
+        tables,
+        ..*call.contents
+    };
     let body = [
         Part::First(intents.at, p.start.saturating_sub(intents.at)),
         Part::Second(start, first),
@@ -200,60 +133,51 @@ fn put_lease(
         Part::First(p.end, call.image.len()),
     ];
     let told = PublicationOutcome::LeaseAcquired(SnapshotLeaseToken {
-        lease_id,
-        tenant_id,
+        lease_id: a.lease_id,
+        tenant_id: a.tenant_id,
         snapshot_version: a.snapshot_version,
         lease_epoch: epoch,
-        owner,
-        purpose,
+        owner: a.owner,
+        purpose: a.purpose,
         deadline_tick: a.deadline_tick,
-        closure,
+        closure: a.closure,
         owner_generation: call.context.generation,
-        authority_position,
+        authority_position: call.context.position,
     });
-    next::emit(
-        call,
-        Change {
-            from: call.image,
-            contents: d,
-            body: &body,
-            stored: call.image,
-            told,
-        },
-        next,
-        outcome,
-    )
+    let change = Change {
+        from: call.image,
+        contents: &contents,
+        body: &body,
+        stored: call.image,
+        told: &told,
+    };
+    next::emit(call, &change, next, outcome)
 }
 
 pub fn acquire_lease(
-    call: Call<'_>,
-    a: AcquireLease,
+    call: &Call<'_>,
+    a: &AcquireLease,
     next: &mut [u8],
     outcome: &mut [u8],
 ) -> Result<Lengths, Refusal>
-    requires { Asks call (PublicationAction.AcquireLease a) }
-    ensures { Answers call.entry next.old outcome.old result next.new outcome.new }
+    requires { Asks call.now (PublicationAction.AcquireLease a.now) }
+    ensures { Answers call.now next.old outcome.old result next.new outcome.new }
 {
-    let n = call.contents.scalars;
-    let tables = call.contents.tables;
-    let leases = tables[image::LEASES];
-    let reservations = tables[image::RESERVATIONS];
     let id = requests::text_of(call.request, a.lease_id);
-    let p = tables::locate(&image::LEASE, call.image, leases.at, leases.count, id);
-    acquire_refusal(call.image, n, reservations, call.request, call.faults, a, p)?;
+    let p = call.locate(image::LEASES, id);
+    acquire_refusal(call, a, p)?;
     put_lease(call, a, p, next, outcome)
 }
 
 // The tests of RenewLease: the row stored under its id, none where it is empty, and the lease read from it.
+#[tactic(auto, unfolding(machine::specs::Tests::first_of))]
 fn renew_refusal(
-    image: &[u8],
-    clock: u64,
-    reservations: Table,
-    a: RenewLease,
+    call: &Call<'_>,
+    a: &RenewLease,
     row: &[u8],
-    held: SnapshotLeaseToken,
+    held: &SnapshotLeaseToken,
 ) -> Result<(), Refusal>
-    ensures { told result ≡ first_of (renew_tests image.now clock reservations a row.now held) }
+    ensures { told result ≡ first_of (renew_tests call.now.image.now call.now.contents.now a.now row.now held.now) }
 {
     if row.is_empty() {
         return Err(Refusal::LeaseMissing);
@@ -261,11 +185,11 @@ fn renew_refusal(
     if held.lease_epoch != a.expected_lease_epoch {
         return Err(Refusal::LeaseEpochMismatch);
     }
-    let closure = held.closure;
-    let keys = closure.object_keys;
-    let past = a.new_deadline_tick <= clock;
+    let reservations = call.contents.tables[image::RESERVATIONS];
+    let keys = held.closure.object_keys.at;
+    let past = a.new_deadline_tick <= call.contents.scalars.lease_clock_tick;
     let no_later = a.new_deadline_tick <= held.deadline_tick;
-    let names_reserved = reserved::is_reserved(false, image, reservations, row, keys.at);
+    let names_reserved = reserved::is_reserved(false, call.image, reservations, row, keys);
     if past {
         return Err(Refusal::LeaseDeadlineInvalid);
     }
@@ -280,43 +204,39 @@ fn renew_refusal(
 
 // The lease put in place of the one that is held: its bytes but for the epoch, the deadline and the context.
 fn put_renewed(
-    call: Call<'_>,
-    a: RenewLease,
+    call: &Call<'_>,
+    a: &RenewLease,
     p: Place,
     row: &[u8],
-    held: SnapshotLeaseToken,
+    held: &SnapshotLeaseToken,
     next: &mut [u8],
     outcome: &mut [u8],
 ) -> Result<Lengths, Refusal>
-    requires { Renewing call.image.now call.contents call.request.now call.context call.faults a p row.now held }
-    ensures { Answers call.entry next.old outcome.old result next.new outcome.new }
+    requires { Renewing call.now.image.now call.now.contents.now call.now.request.now call.now.context call.now.faults a.now p row.now held.now }
+    ensures { Answers call.now next.old outcome.old result next.new outcome.new }
 {
     let n = call.contents.scalars;
-    let tables = call.contents.tables;
-    let leases = tables[image::LEASES];
     let epoch = next::up(n.lease_epoch);
-    let root_epoch = next::up_unless(call.faults.omit_lease_root_epoch, n.root_intent_epoch);
-    let table = edits::after_insert(leases, p, row.len());
-    let d = with_leases(
-        call.contents,
-        call.context,
-        root_epoch,
-        n.policy_floor,
-        n.minimum_readable_version,
-        n.lease_clock_tick,
-        epoch,
-        table,
-    );
-    let lease_id = held.lease_id;
-    let tenant_id = held.tenant_id;
-    let owner = held.owner;
-    let purpose = held.purpose;
-    let closure = held.closure;
-    let authority_position = call.context.position;
-    let keys = closure.object_keys;
-    let rest = owner.at.saturating_sub(1);
-    let deadline = purpose.at + purpose.len;
+    let mut tables = call.contents.tables;
     let intents = tables[image::INTENTS];
+    tables[image::LEASES] = edits::after_insert(tables[image::LEASES], p, row.len());
+    let contents = Contents {
+        scalars: Scalars {
+            term: call.context.position.term,
+            index: call.context.position.index,
+            root_intent_epoch: next::up_unless(
+                call.faults.omit_lease_root_epoch,
+                n.root_intent_epoch,
+            ),
+            lease_epoch: epoch,
+            ..n
+        },
+        tables,
+        ..*call.contents
+    };
+    let keys = held.closure.object_keys;
+    let rest = held.owner.at.saturating_sub(1);
+    let deadline = held.purpose.at + held.purpose.len;
     let body = [
         Part::First(intents.at, p.start.saturating_sub(intents.at)),
         Part::First(p.start, rest.saturating_sub(8)),
@@ -333,52 +253,40 @@ fn put_renewed(
         Part::First(p.end, call.image.len()),
     ];
     let told = PublicationOutcome::LeaseRenewed(SnapshotLeaseToken {
-        lease_id,
-        tenant_id,
-        snapshot_version: held.snapshot_version,
         lease_epoch: epoch,
-        owner,
-        purpose,
         deadline_tick: a.new_deadline_tick,
-        closure,
         owner_generation: call.context.generation,
-        authority_position,
+        authority_position: call.context.position,
+        ..*held
     });
-    next::emit(
-        call,
-        Change {
-            from: call.image,
-            contents: d,
-            body: &body,
-            stored: row,
-            told,
-        },
-        next,
-        outcome,
-    )
+    let change = Change {
+        from: call.image,
+        contents: &contents,
+        body: &body,
+        stored: row,
+        told: &told,
+    };
+    next::emit(call, &change, next, outcome)
 }
 
 pub fn renew_lease(
-    call: Call<'_>,
-    a: RenewLease,
+    call: &Call<'_>,
+    a: &RenewLease,
     next: &mut [u8],
     outcome: &mut [u8],
 ) -> Result<Lengths, Refusal>
-    requires { Asks call (PublicationAction.RenewLease a) }
-    ensures { Answers call.entry next.old outcome.old result next.new outcome.new }
+    requires { Asks call.now (PublicationAction.RenewLease a.now) }
+    ensures { Answers call.now next.old outcome.old result next.new outcome.new }
 {
-    let n = call.contents.scalars;
-    let tables = call.contents.tables;
-    let leases = tables[image::LEASES];
     let id = requests::text_of(call.request, a.lease_id);
-    let p = tables::locate(&image::LEASE, call.image, leases.at, leases.count, id);
+    let p = call.locate(image::LEASES, id);
     let row = tables::row(call.image, p);
     let held = requests::lease_token_at(row, 0);
-    let reservations = tables[image::RESERVATIONS];
-    renew_refusal(call.image, n.lease_clock_tick, reservations, a, row, held)?;
-    put_renewed(call, a, p, row, held, next, outcome)
+    renew_refusal(call, a, row, &held)?;
+    put_renewed(call, a, p, row, &held, next, outcome)
 }
 
+#[tactic(auto, unfolding(machine::specs::Tests::first_of))]
 fn release_refusal(row: &[u8], held: u64, expected: u64) -> Result<(), Refusal>
     ensures { told result ≡ first_of (release_tests row.now held expected) }
 {
@@ -392,55 +300,45 @@ fn release_refusal(row: &[u8], held: u64, expected: u64) -> Result<(), Refusal>
 }
 
 pub fn release_lease(
-    call: Call<'_>,
-    a: ReleaseLease,
+    call: &Call<'_>,
+    a: &ReleaseLease,
     next: &mut [u8],
     outcome: &mut [u8],
 ) -> Result<Lengths, Refusal>
-    requires { Asks call (PublicationAction.ReleaseLease a) }
-    ensures { Answers call.entry next.old outcome.old result next.new outcome.new }
+    requires { Asks call.now (PublicationAction.ReleaseLease a.now) }
+    ensures { Answers call.now next.old outcome.old result next.new outcome.new }
 {
     let n = call.contents.scalars;
-    let tables = call.contents.tables;
-    let leases = tables[image::LEASES];
     let id = requests::text_of(call.request, a.lease_id);
-    let p = tables::locate(&image::LEASE, call.image, leases.at, leases.count, id);
+    let p = call.locate(image::LEASES, id);
     let row = tables::row(call.image, p);
     let held = tables::number_after(&image::LEASE[..image::LEASE_EPOCH], row, 0);
     release_refusal(row, held, a.expected_lease_epoch)?;
     let w = n.retention_window;
-    let epoch = next::up(n.lease_epoch);
-    let root_epoch = next::up_unless(call.faults.omit_lease_root_epoch, n.root_intent_epoch);
     let policy = floor::policy_for(w, n.observed_commit_frontier, n.policy_floor);
-    let candidate = oldest_without(call.image, leases.at, leases.count, id, policy);
-    let readable = floor::readable_for(w, candidate, n.minimum_readable_version);
-    let table = edits::after_remove(leases, p);
-    let d = with_leases(
-        call.contents,
-        call.context,
-        root_epoch,
-        policy,
-        readable,
-        n.lease_clock_tick,
-        epoch,
-        table,
-    );
+    let candidate = oldest_without(call.rows(image::LEASES), id, policy);
+    let mut tables = call.contents.tables;
     let intents = tables[image::INTENTS];
+    tables[image::LEASES] = edits::after_remove(tables[image::LEASES], p);
+    let contents = Contents {
+        scalars: Scalars {
+            term: call.context.position.term,
+            index: call.context.position.index,
+            root_intent_epoch: next::up_unless(
+                call.faults.omit_lease_root_epoch,
+                n.root_intent_epoch,
+            ),
+            policy_floor: policy,
+            minimum_readable_version: floor::readable_for(w, candidate, n.minimum_readable_version),
+            lease_epoch: next::up(n.lease_epoch),
+            ..n
+        },
+        tables,
+        ..*call.contents
+    };
     let body = [
         Part::First(intents.at, p.start.saturating_sub(intents.at)),
         Part::First(p.end, call.image.len()),
     ];
-    let told = PublicationOutcome::Applied;
-    next::emit(
-        call,
-        Change {
-            from: call.image,
-            contents: d,
-            body: &body,
-            stored: call.image,
-            told,
-        },
-        next,
-        outcome,
-    )
+    next::emit_applied(call, &contents, &body, next, outcome)
 }

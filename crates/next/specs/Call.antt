@@ -52,7 +52,7 @@ abbrev pub asking : Call → PublicationAction → RequestAt
 asking call a = record { context = call.context; faults = call.faults; action = a }
 
 abbrev pub Asks : Call → PublicationAction → Type 0
-Asks call a = Ready call.image.now call.contents call.request.now (asking call a)
+Asks call a = Ready call.image.now call.contents.now call.request.now (asking call a)
 
 -- what it answered, lent d and e, and what it left in them
 abbrev pub Answers : Call → (d e : List ℕ) → Result Lengths Refusal → (d' e' : List ℕ) → Type 0

@@ -1,4 +1,5 @@
 pub mod Contents
+pub mod Rows
 pub mod Emit
 pub mod Call
 pub mod Kept

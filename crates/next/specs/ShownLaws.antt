@@ -1,6 +1,6 @@
 -- Contents that show a state, changed, show the state with the same change; and they stay small.
 use Rattle.std.specs.Prelude.{ℕ, zero, suc, ◌≤◌, List, [], ◌∷◌, ◌≡◌, get_or, set}
-use Rattle.std.proofs.Common.{sym, ap, ◌∙◌, subst, length-set}
+use Rattle.std.proofs.Common.{sym, ap, subst}
 use Rattle.state.specs.Maps.{Map}
 use Rattle.state.specs.Records.{State}
 use Rattle.state.specs.Setters.{set_revision}

@@ -1,13 +1,15 @@
 // The next image and the outcome, measured and then written: the one way in which a transition answers.
 #![tactic(auto)]
 
-ghost use Rattle.std.specs.Prelude.{◌≡◌, ◌∷◌, ◌++◌, ◌≤◌, length, take, cond};
+ghost use Rattle.std.specs.Prelude.{◌≡◌, ◌∷◌, ◌++◌, ◌≤◌, ◌<◌, length, take, cond};
 ghost use Rattle.machine.specs.Next.{up};
 ghost use Rattle.parts.specs.Gather.{gather_of, Filled};
 ghost use Rattle.parts.specs.declared.Part.{Part};
 ghost use Rattle.image.specs.Front.{front_of, contents_over_limit, Small};
 ghost use Rattle.next.specs.Contents.{revised, raised};
-ghost use Rattle.next.specs.Emit.{Emitted};
+ghost use Rattle.next.specs.Rows.{RowsOf, place_in};
+ghost use Rattle.next.specs.Emit.{Emitted, EmittedAs};
+ghost use Rattle.next.specs.declared.PublicationOutcome.{PublicationOutcome};
 ghost use Rattle.next.specs.Outcome.{PermitEnds, AcquiredEnds, RenewedEnds, JobEnds, ReceiptEnds, permit_parts_of, acquired_parts_of, renewed_parts_of, prepared_parts_of, published_parts_of, RowsStand, Listed, ExpiredAs, outcome_bytes, Fits};
 
 use image::{Contents, Scalars};
@@ -17,6 +19,7 @@ use requests::{
     AuthorityContext, AuthorityPosition, CollectionJobToken, CollectionReceipt, DeletePermit,
     PublicationAuthorityFaults, SnapshotLeaseToken,
 };
+use tables::{Place, TableRows};
 
 // The ids of the leases that end at a tick: where the leases stand in the image, and how many they are.
 #[derive(Clone, Copy)]
@@ -43,10 +46,34 @@ pub enum PublicationOutcome {
 #[derive(Clone, Copy)]
 pub struct Call<'a> {
     pub image: &'a [u8],
-    pub contents: Contents,
+    pub contents: &'a Contents,
     pub request: &'a [u8],
     pub context: AuthorityContext,
     pub faults: PublicationAuthorityFaults,
+}
+
+impl<'a> Call<'a> {
+    // The rows of a table of the image.
+    pub fn rows(&self, table: usize) -> TableRows<'a>
+        requires { table < 6 }
+        ensures { RowsOf self.now table result }
+    {
+        let place = self.contents.tables[table];
+        TableRows {
+            codes: image::row_shape(table),
+            bytes: self.image,
+            at: place.at,
+            left: place.count,
+        }
+    }
+
+    // Where the row of a table with an id stands in the image, or would stand.
+    pub fn locate(&self, table: usize, id: &[u8]) -> Place
+        requires { table < 6 }
+        ensures { result ≡ place_in self.now table id.now }
+    {
+        self.rows(table).locate(id)
+    }
 }
 
 // What an accepted action changes and tells: the contents after it, whose root's text stands in `from`; the parts of its tables, of
@@ -54,17 +81,17 @@ pub struct Call<'a> {
 #[derive(Clone, Copy)]
 pub struct Change<'a> {
     pub from: &'a [u8],
-    pub contents: Contents,
+    pub contents: &'a Contents,
     pub body: &'a [Part],
     pub stored: &'a [u8],
-    pub told: PublicationOutcome,
+    pub told: &'a PublicationOutcome,
 }
 
 // The parts of each outcome: its number, and then its fields. Fields that stand side by side, as they do in the request that
 // asks for them or in the lease that is renewed, are one run: it starts at the first one's length byte.
-fn permit_parts(o: DeletePermit) -> [Part; 6]
-    requires { PermitEnds o }
-    ensures { result ≡ Part.Number 1 1 ∷ permit_parts_of o }
+fn permit_parts(o: &DeletePermit) -> [Part; 6]
+    requires { PermitEnds o.now }
+    ensures { result ≡ Part.Number 1 1 ∷ permit_parts_of o.now }
 {
     let hash = o.identity.sha256;
     let plan = o.plan_id;
@@ -81,9 +108,9 @@ fn permit_parts(o: DeletePermit) -> [Part; 6]
 }
 
 // In the request the epoch is not there: the version is followed by the owner.
-fn acquired_parts(o: SnapshotLeaseToken) -> [Part; 7]
-    requires { AcquiredEnds o }
-    ensures { result ≡ Part.Number 2 1 ∷ acquired_parts_of o }
+fn acquired_parts(o: &SnapshotLeaseToken) -> [Part; 7]
+    requires { AcquiredEnds o.now }
+    ensures { result ≡ Part.Number 2 1 ∷ acquired_parts_of o.now }
 {
     let keys = o.closure.object_keys;
     let p = o.authority_position;
@@ -101,9 +128,9 @@ fn acquired_parts(o: SnapshotLeaseToken) -> [Part; 7]
 }
 
 // In the lease that is renewed the old epoch stands before the owner, and the old deadline after the purpose.
-fn renewed_parts(o: SnapshotLeaseToken) -> [Part; 9]
-    requires { RenewedEnds o }
-    ensures { result ≡ Part.Number 3 1 ∷ renewed_parts_of o }
+fn renewed_parts(o: &SnapshotLeaseToken) -> [Part; 9]
+    requires { RenewedEnds o.now }
+    ensures { result ≡ Part.Number 3 1 ∷ renewed_parts_of o.now }
 {
     let purpose = o.purpose;
     let keys = o.closure.object_keys;
@@ -126,9 +153,9 @@ fn renewed_parts(o: SnapshotLeaseToken) -> [Part; 9]
 }
 
 // In the request generation and position are not there: the id is followed by the floor.
-fn prepared_parts(o: CollectionJobToken) -> [Part; 6]
-    requires { JobEnds o }
-    ensures { result ≡ Part.Number 5 1 ∷ prepared_parts_of o }
+fn prepared_parts(o: &CollectionJobToken) -> [Part; 6]
+    requires { JobEnds o.now }
+    ensures { result ≡ Part.Number 5 1 ∷ prepared_parts_of o.now }
 {
     let id = o.job_id;
     let namespace = o.output_namespace;
@@ -144,9 +171,9 @@ fn prepared_parts(o: CollectionJobToken) -> [Part; 6]
     ]
 }
 
-fn published_parts(o: CollectionReceipt) -> [Part; 2]
-    requires { ReceiptEnds o }
-    ensures { result ≡ Part.Number 6 1 ∷ published_parts_of o }
+fn published_parts(o: &CollectionReceipt) -> [Part; 2]
+    requires { ReceiptEnds o.now }
+    ensures { result ≡ Part.Number 6 1 ∷ published_parts_of o.now }
 {
     let keys = o.object_keys;
     let start = o.token.job_id.at.saturating_sub(1);
@@ -167,9 +194,10 @@ fn ids(parts: &mut [Part], s: &[u8], places: &[usize])
     }
 }
 
-fn expired_parts(s: &[u8], o: LeasesExpired) -> [Part; 66]
-    requires { RowsStand s.now o }
-    ensures { ExpiredAs s.now o result }
+// Fixed memory: an array for all leases that there can be, and the number before them; as many as ended are filled.
+fn expired_parts(s: &[u8], o: &LeasesExpired) -> [Part; 66]
+    requires { RowsStand s.now o.now }
+    ensures { ExpiredAs s.now o.now result }
 {
     let mut parts = [Part::EMPTY; 66];
     let mut places = [0; 64];
@@ -182,17 +210,17 @@ fn expired_parts(s: &[u8], o: LeasesExpired) -> [Part; 66]
 
 // The head of the next image, its tables and what is told, measured and then written.
 fn commit(
-    call: Call<'_>,
-    change: Change<'_>,
+    call: &Call<'_>,
+    change: &Change<'_>,
     told: &[Part],
     next: &mut [u8],
     outcome: &mut [u8],
 ) -> Result<Lengths, Refusal>
-    requires { Small change.contents }
-    ensures { Emitted call.entry.image.now call.entry.request.now change.entry.body.now next.old outcome.old next.new outcome.new result (contents_over_limit change.entry.contents)
-        (front_of change.entry.from.now change.entry.contents) (gather_of change.entry.stored.now call.entry.request.now told.now) }
+    requires { Small change.now.contents.now }
+    ensures { Emitted call.now.image.now call.now.request.now change.now.body.now next.old outcome.old next.new outcome.new result (contents_over_limit change.now.contents.now)
+        (front_of change.now.from.now change.now.contents.now) (gather_of change.now.stored.now call.now.request.now told.now) }
 {
-    let front = image::front_of(change.from, &change.contents);
+    let front = image::front_of(change.from, change.contents);
     let over = change.contents.over_limit();
     parts::emit(
         over,
@@ -207,41 +235,147 @@ fn commit(
     )
 }
 
-// The one way in which an accepted action answers.
-pub fn emit(
-    call: Call<'_>,
-    change: Change<'_>,
+// The same with what is told, a function for each: a call lays the parts of its own outcome alone. In one function it would lay those
+// of all, some 650 instructions, a quarter of the smallest call.
+fn commit_permit(
+    call: &Call<'_>,
+    change: &Change<'_>,
+    permit: &DeletePermit,
     next: &mut [u8],
     outcome: &mut [u8],
 ) -> Result<Lengths, Refusal>
-    requires { Small change.contents × Fits change.stored.now call.request.now change.told }
-    ensures { Emitted call.entry.image.now call.entry.request.now change.entry.body.now next.old outcome.old next.new outcome.new result (contents_over_limit change.entry.contents)
-        (front_of change.entry.from.now change.entry.contents) (outcome_bytes change.entry.stored.now call.entry.request.now change.entry.told) }
+    requires { Small change.now.contents.now × Fits change.now.stored.now call.now.request.now (PublicationOutcome.DeleteReserved permit.now) }
+    ensures { EmittedAs call.now change.now (PublicationOutcome.DeleteReserved permit.now) next.old outcome.old result next.new outcome.new }
+{
+    commit(call, change, &permit_parts(permit), next, outcome)
+}
+
+fn commit_acquired(
+    call: &Call<'_>,
+    change: &Change<'_>,
+    token: &SnapshotLeaseToken,
+    next: &mut [u8],
+    outcome: &mut [u8],
+) -> Result<Lengths, Refusal>
+    requires { Small change.now.contents.now × Fits change.now.stored.now call.now.request.now (PublicationOutcome.LeaseAcquired token.now) }
+    ensures { EmittedAs call.now change.now (PublicationOutcome.LeaseAcquired token.now) next.old outcome.old result next.new outcome.new }
+{
+    commit(call, change, &acquired_parts(token), next, outcome)
+}
+
+fn commit_renewed(
+    call: &Call<'_>,
+    change: &Change<'_>,
+    token: &SnapshotLeaseToken,
+    next: &mut [u8],
+    outcome: &mut [u8],
+) -> Result<Lengths, Refusal>
+    requires { Small change.now.contents.now × Fits change.now.stored.now call.now.request.now (PublicationOutcome.LeaseRenewed token.now) }
+    ensures { EmittedAs call.now change.now (PublicationOutcome.LeaseRenewed token.now) next.old outcome.old result next.new outcome.new }
+{
+    commit(call, change, &renewed_parts(token), next, outcome)
+}
+
+fn commit_prepared(
+    call: &Call<'_>,
+    change: &Change<'_>,
+    token: &CollectionJobToken,
+    next: &mut [u8],
+    outcome: &mut [u8],
+) -> Result<Lengths, Refusal>
+    requires { Small change.now.contents.now × Fits change.now.stored.now call.now.request.now (PublicationOutcome.CollectionPrepared token.now) }
+    ensures { EmittedAs call.now change.now (PublicationOutcome.CollectionPrepared token.now) next.old outcome.old result next.new outcome.new }
+{
+    commit(call, change, &prepared_parts(token), next, outcome)
+}
+
+fn commit_published(
+    call: &Call<'_>,
+    change: &Change<'_>,
+    receipt: &CollectionReceipt,
+    next: &mut [u8],
+    outcome: &mut [u8],
+) -> Result<Lengths, Refusal>
+    requires { Small change.now.contents.now × Fits change.now.stored.now call.now.request.now (PublicationOutcome.CollectionPublished receipt.now) }
+    ensures { EmittedAs call.now change.now (PublicationOutcome.CollectionPublished receipt.now) next.old outcome.old result next.new outcome.new }
+{
+    commit(call, change, &published_parts(receipt), next, outcome)
+}
+
+fn commit_expired(
+    call: &Call<'_>,
+    change: &Change<'_>,
+    leases: &LeasesExpired,
+    next: &mut [u8],
+    outcome: &mut [u8],
+) -> Result<Lengths, Refusal>
+    requires { Small change.now.contents.now × RowsStand change.now.stored.now leases.now }
+    ensures { EmittedAs call.now change.now (PublicationOutcome.LeasesExpired leases.now) next.old outcome.old result next.new outcome.new }
+{
+    let told = expired_parts(change.stored, leases);
+    commit(call, change, &told[..leases.count + 2], next, outcome)
+}
+
+// The one way in which an accepted action answers.
+pub fn emit(
+    call: &Call<'_>,
+    change: &Change<'_>,
+    next: &mut [u8],
+    outcome: &mut [u8],
+) -> Result<Lengths, Refusal>
+    requires { Small change.now.contents.now × Fits change.now.stored.now call.now.request.now change.now.told.now }
+    ensures { EmittedAs call.now change.now change.now.told.now next.old outcome.old result next.new outcome.new }
 {
     match change.told {
         PublicationOutcome::Applied => commit(call, change, &[Part::Number(0, 1)], next, outcome),
         PublicationOutcome::DeleteReserved(permit) => {
-            commit(call, change, &permit_parts(permit), next, outcome)
+            commit_permit(call, change, permit, next, outcome)
         }
         PublicationOutcome::LeaseAcquired(token) => {
-            commit(call, change, &acquired_parts(token), next, outcome)
+            commit_acquired(call, change, token, next, outcome)
         }
         PublicationOutcome::LeaseRenewed(token) => {
-            commit(call, change, &renewed_parts(token), next, outcome)
+            commit_renewed(call, change, token, next, outcome)
         }
         PublicationOutcome::LeasesExpired(leases) => {
-            let told = expired_parts(change.stored, leases);
-            commit(call, change, &told[..leases.count + 2], next, outcome)
+            commit_expired(call, change, leases, next, outcome)
         }
         PublicationOutcome::CollectionPrepared(token) => {
-            commit(call, change, &prepared_parts(token), next, outcome)
+            commit_prepared(call, change, token, next, outcome)
         }
         PublicationOutcome::CollectionPublished(receipt) => {
-            commit(call, change, &published_parts(receipt), next, outcome)
+            commit_published(call, change, receipt, next, outcome)
         }
     }
 }
 
+// The same where nothing is told but that the request was applied, and all that is kept stands in the image.
+pub fn emit_applied(
+    call: &Call<'_>,
+    contents: &Contents,
+    body: &[Part],
+    next: &mut [u8],
+    outcome: &mut [u8],
+) -> Result<Lengths, Refusal>
+    requires { Small contents.now }
+    ensures { Emitted call.now.image.now call.now.request.now body.now next.old outcome.old next.new outcome.new result (contents_over_limit contents.now)
+        (front_of call.now.image.now contents.now) (outcome_bytes call.now.image.now call.now.request.now PublicationOutcome.Applied) }
+{
+    emit(
+        call,
+        &Change {
+            from: call.image,
+            contents,
+            body,
+            stored: call.image,
+            told: &PublicationOutcome::Applied,
+        },
+        next,
+        outcome,
+    )
+}
+
+// The step of every epoch, by the rule's own name, so that it stands once.
 pub fn up(n: u64) -> u64
     ensures { result ≡ up n }
 {
@@ -256,20 +390,20 @@ pub fn up_unless(omit: bool, n: u64) -> u64
 }
 
 // The contents at a revision.
-pub fn revised(c: Contents, p: AuthorityPosition) -> Contents
-    ensures { result ≡ revised c p }
+pub fn revised(c: &Contents, p: AuthorityPosition) -> Contents
+    ensures { result ≡ revised c.now p }
 {
     let scalars = Scalars {
         term: p.term,
         index: p.index,
         ..c.scalars
     };
-    Contents { scalars, ..c }
+    Contents { scalars, ..*c }
 }
 
 // The contents at a revision, with the root intent epoch raised.
-pub fn raised(c: Contents, p: AuthorityPosition) -> Contents
-    ensures { result ≡ raised c p }
+pub fn raised(c: &Contents, p: AuthorityPosition) -> Contents
+    ensures { result ≡ raised c.now p }
 {
     let scalars = Scalars {
         term: p.term,
@@ -277,5 +411,5 @@ pub fn raised(c: Contents, p: AuthorityPosition) -> Contents
         root_intent_epoch: up(c.scalars.root_intent_epoch),
         ..c.scalars
     };
-    Contents { scalars, ..c }
+    Contents { scalars, ..*c }
 }

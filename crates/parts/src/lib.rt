@@ -104,8 +104,8 @@ pub fn put_digits(out: &mut [u8], at: usize, v: u64, n: usize) -> usize
 }
 
 impl Part {
-    // A part with no bytes.
-    pub const EMPTY: Part = Part::Number(0, 0);
+    // A part with no bytes, and all of zeros, so that an array of them is laid at once.
+    pub const EMPTY: Part = Part::First(0, 0);
 
     fn size(self, a: &[u8], b: &[u8]) -> usize
         ensures { result ≡ length (piece_of a.now b.now self) }

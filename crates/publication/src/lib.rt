@@ -11,7 +11,7 @@ ghost use Rattle.next.specs.Call.{Asks, Answers};
 ghost use Rattle.publication.specs.References.{option_at};
 ghost use Rattle.publication.specs.Tests.{pin_tests, unpin_tests};
 
-use next::{Call, Change, PublicationOutcome};
+use next::Call;
 use parts::{Lengths, Part};
 use refusals::Refusal;
 use requests::{Pin, Unpin};
@@ -35,12 +35,12 @@ pub fn is_expected(row: &[u8], first: usize, expected: &[u8]) -> bool
 #[tactic(auto, unfolding(machine::specs::Tests::first_of))]
 fn pin_refusal(
     request: &[u8],
-    a: Pin,
+    a: &Pin,
     row: &[u8],
     first: usize,
     expected: &[u8],
 ) -> Result<(), Refusal>
-    ensures { told result ≡ first_of (pin_tests (text_of request.now a.pin_id) (reference_of request.now a.manifest) (same_of (drop first row.now) (drop 1 expected.now))) }
+    ensures { told result ≡ first_of (pin_tests (text_of request.now a.now.pin_id) (reference_of request.now a.now.manifest) (same_of (drop first row.now) (drop 1 expected.now))) }
 {
     if records::is_empty(request, a.pin_id) {
         return Err(Refusal::InvalidRequest);
@@ -57,54 +57,45 @@ fn pin_refusal(
     Ok(())
 }
 
-pub fn pin(call: Call<'_>, a: Pin, next: &mut [u8], outcome: &mut [u8]) -> Result<Lengths, Refusal>
-    requires { Asks call (PublicationAction.Pin a) }
-    ensures { Answers call.entry next.old outcome.old result next.new outcome.new }
+pub fn pin(
+    call: &Call<'_>,
+    a: &Pin,
+    next: &mut [u8],
+    outcome: &mut [u8],
+) -> Result<Lengths, Refusal>
+    requires { Asks call.now (PublicationAction.Pin a.now) }
+    ensures { Answers call.now next.old outcome.old result next.new outcome.new }
 {
-    let tables = call.contents.tables;
-    let intents = tables[image::INTENTS];
-    let pins = tables[image::PINS];
     let id = requests::text_of(call.request, a.pin_id);
     let first = id.len() + 1;
-    let p = tables::locate(&image::REFERENCE_ROW, call.image, pins.at, pins.count, id);
+    let p = call.locate(image::PINS, id);
     let expected = option_at(call.request, 27 + first);
     pin_refusal(call.request, a, tables::row(call.image, p), first, expected)?;
     let m = 27 + first + expected.len();
     let bytes = first + call.request.len().saturating_sub(m);
-    let after = edits::after_insert(pins, p, bytes);
+    let after = edits::after_insert(call.contents.tables[image::PINS], p, bytes);
     let mut d = next::raised(call.contents, call.context.position);
     d.tables[image::PINS] = after;
+    let intents = call.contents.tables[image::INTENTS];
     let body = [
         Part::First(intents.at, p.start.saturating_sub(intents.at)),
         Part::Second(27, first),
         Part::Second(m, call.request.len()),
         Part::First(p.end, call.image.len()),
     ];
-    let told = PublicationOutcome::Applied;
-    next::emit(
-        call,
-        Change {
-            from: call.image,
-            contents: d,
-            body: &body,
-            stored: call.image,
-            told,
-        },
-        next,
-        outcome,
-    )
+    next::emit_applied(call, &d, &body, next, outcome)
 }
 
 // The same for a pin that is to go: its row holds just the reference that was expected.
 #[tactic(auto, unfolding(machine::specs::Tests::first_of))]
 fn unpin_refusal(
     request: &[u8],
-    a: Unpin,
+    a: &Unpin,
     row: &[u8],
     first: usize,
     expected: &[u8],
 ) -> Result<(), Refusal>
-    ensures { told result ≡ first_of (unpin_tests (text_of request.now a.pin_id) (reference_of request.now a.expected) (same_of (drop first row.now) expected.now)) }
+    ensures { told result ≡ first_of (unpin_tests (text_of request.now a.now.pin_id) (reference_of request.now a.now.expected) (same_of (drop first row.now) expected.now)) }
 {
     if records::is_empty(request, a.pin_id) {
         return Err(Refusal::InvalidRequest);
@@ -119,40 +110,26 @@ fn unpin_refusal(
 }
 
 pub fn unpin(
-    call: Call<'_>,
-    a: Unpin,
+    call: &Call<'_>,
+    a: &Unpin,
     next: &mut [u8],
     outcome: &mut [u8],
 ) -> Result<Lengths, Refusal>
-    requires { Asks call (PublicationAction.Unpin a) }
-    ensures { Answers call.entry next.old outcome.old result next.new outcome.new }
+    requires { Asks call.now (PublicationAction.Unpin a.now) }
+    ensures { Answers call.now next.old outcome.old result next.new outcome.new }
 {
-    let tables = call.contents.tables;
-    let intents = tables[image::INTENTS];
-    let pins = tables[image::PINS];
     let id = requests::text_of(call.request, a.pin_id);
     let first = id.len() + 1;
-    let p = tables::locate(&image::REFERENCE_ROW, call.image, pins.at, pins.count, id);
+    let p = call.locate(image::PINS, id);
     let expected = parts::clip(call.request, 27 + first, call.request.len());
     unpin_refusal(call.request, a, tables::row(call.image, p), first, expected)?;
-    let after = edits::after_remove(pins, p);
+    let after = edits::after_remove(call.contents.tables[image::PINS], p);
     let mut d = next::raised(call.contents, call.context.position);
     d.tables[image::PINS] = after;
+    let intents = call.contents.tables[image::INTENTS];
     let body = [
         Part::First(intents.at, p.start.saturating_sub(intents.at)),
         Part::First(p.end, call.image.len()),
     ];
-    let told = PublicationOutcome::Applied;
-    next::emit(
-        call,
-        Change {
-            from: call.image,
-            contents: d,
-            body: &body,
-            stored: call.image,
-            told,
-        },
-        next,
-        outcome,
-    )
+    next::emit_applied(call, &d, &body, next, outcome)
 }

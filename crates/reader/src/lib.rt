@@ -1,4 +1,4 @@
-// A row of a table by its own bytes. `tables::rows` goes from each row to the next.
+// A row of a table by its own bytes. `TableRows` of tables goes from each row to the next.
 #![tactic(auto)]
 
 ghost use Rattle.std.specs.Prelude.{◌≡◌, drop};

@@ -120,10 +120,9 @@ impl<'a> Iterator for Cases<'a> {
 
 // Whether s is what was wanted and then the filling. A fold and not `all`, which stops early: so it is compiled to vectors.
 fn holds(s: &[u8], wanted: &[u8]) -> bool {
-    let Some(rest) = s.strip_prefix(wanted) else {
-        return false;
-    };
-    rest.iter().fold(true, |same, b| same & (*b == FILLING))
+    s.strip_prefix(wanted).is_some_and(|rest| {
+        rest.iter().fold(true, |same, b| same & (*b == FILLING))
+    })
 }
 
 // What a case answers, where it is a call, and whether that is what was expected.
@@ -250,8 +249,8 @@ impl fmt::Display for Line<'_> {
     }
 }
 
-// Case by case, up to the end of the cases.
-fn run(rt: &impl Print, cases: &[u8]) -> io::Result<()> {
+// Case by case, up to the end of the cases. What cannot be written is passed over.
+fn run(rt: &impl Print, cases: &[u8]) {
     let mut replay = Replay {
         image: &[],
         next: [0; 65536],
@@ -265,12 +264,12 @@ fn run(rt: &impl Print, cases: &[u8]) -> io::Result<()> {
             case,
             answer,
         };
-        println!(rt; "{line}")?;
+        let _ = println!(rt; "{line}");
         if answer.same {
             same = same.saturating_add(1);
         }
     }
-    println!(rt; "same {same}")
+    let _ = println!(rt; "same {same}");
 }
 
 // Room for the cases. Its clause says only the length: a proof that sees half a million zeros takes too long.
@@ -280,9 +279,12 @@ fn room_for_cases() -> [u8; 524288]
     [0; 524288]
 }
 
-fn main(rt: HostRuntime) -> io::Result<()> {
+fn main(rt: HostRuntime) {
     let mut cases = room_for_cases();
     let room = cases.len();
-    let read = io::copy(&mut rt.reader().take(room as u64), &mut &mut cases[..])?;
-    run(&rt, &cases[..room.min(read as usize)])
+    let mut left = &mut cases[..];
+    // a read that fails ends the cases
+    let _ = io::copy(&mut rt.reader().take(room as u64), &mut left);
+    let read = room.saturating_sub(left.len());
+    run(&rt, &cases[..read]);
 }

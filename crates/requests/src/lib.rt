@@ -26,6 +26,9 @@ pub enum ObjectKind {
     Manifest,
 }
 
+// What a request and its records hold. Nothing compares or prints it; with equality and Debug derived too, the check of this crate takes
+// 1.7 times as long.
+
 // A set of keys: the place of its count byte, and how many bytes it takes, count byte included.
 #[derive(Clone, Copy)]
 pub struct Keys {

@@ -7,14 +7,12 @@ use Rattle.text.proofs.OrderLaws.{flip, order_flip, order_trans}
 use Rattle.std.specs.declared.cmp.Ordering.TheVariants.{Less, Greater}
 use Rattle.state.specs.Maps.{Text, any, is_empty}
 use Rattle.fields.specs.declared.Code.{Code}
-use Rattle.fields.specs.Codes.{skip}
 use Rattle.fields.specs.Rows.{text_here}
-use Rattle.fields.specs.Walks.{place_of}
 use Rattle.tables.specs.Skips.{after_record}
-use Rattle.tables.specs.Seek.{nothing_at, seek, row_of}
-use Rattle.reserved.specs.Located.{located_in}
-use Rattle.reserved.specs.Passed.{Passed, Reached}
-use Rattle.reserved.specs.declared.Rest.{Rest}
+use Rattle.tables.specs.Seek.{nothing_at, seek, row_of, after_row}
+use Rattle.tables.specs.declared.TableRows.{TableRows}
+use Rattle.reserved.specs.Located.{located_in, located_of}
+use Rattle.reserved.specs.Passed.{sought, Passed, Reached}
 
 -- ---- no rows
 
@@ -32,8 +30,8 @@ any_none cs s [] = refl
 any_none cs s (k ∷ ks) = rw (no_rows cs s k) (any_none cs s ks)
 
 -- no row is passed yet
-pub passed_none : (cs : List Code) (n : ℕ) (s : List ℕ) (id : Text) → Passed cs n s id n s
-passed_none cs n s id = record { later = λ k h. refl }
+pub passed_none : (rows : TableRows) (id : Text) → Passed rows id rows
+passed_none rows id = record { later = λ k h. refl }
 
 module _ (P : Text → Bool) where
   pub any_end : any P [] ≡ false
@@ -48,49 +46,49 @@ pub ruleset set_steps = (any_none, any_end, any_on, passed_none)
 
 -- ---- the search for a key
 
-module _ (cs : List Code) (n : ℕ) (s : List ℕ) (id : Text) where
+module _ (rows : TableRows) (id : Text) where
   -- the same answer where the rows before the id are left out
-  same_row : (m : ℕ) (t : List ℕ) → seek cs n id s ≡ seek cs m id t → located_in cs n s id ≡ located_in cs m t id
+  same_row : (rest : TableRows) → sought rows id ≡ sought rest id → located_of rows id ≡ located_of rest id
   unfolding located_in
-  same_row m t e = ap (λ x. not (is_empty (row_of x))) e
+  same_row rest e = ap (λ x. not (is_empty (row_of x))) e
 
   -- a search that began later
-  passed_on : (m j : ℕ) (t u : List ℕ) (last : Text) → Passed cs n s last m t → order_of last id ≡ Less → Passed cs m t id j u → Passed cs n s id j u
-  passed_on m j t u last p h q = record { later = λ k o. p.later k (order_trans last id k h o) ∙ q.later k o }
+  passed_on : (from rest : TableRows) (last : Text) → Passed rows last from → order_of last id ≡ Less → Passed from id rest → Passed rows id rest
+  passed_on from rest last p h q = record { later = λ k o. p.later k (order_trans last id k h o) ∙ q.later k o }
 
-  pub reached_on : (x : List ℕ) (m : ℕ) (t : List ℕ) (last : Text) (o : Option Rest) → Passed cs n s last m t → order_of last id ≡ Less → Reached cs m x t id o → Reached cs n x s id o
-  reached_on x m t last None p h r = same_row m t (p.later id h) ∙ r
-  reached_on x m t last (Some r) p h q = (same_row m t (p.later id h) ∙ q.0, passed_on m r.rows t (drop r.at x) last p h q.1)
+  pub reached_on : (from : TableRows) (last : Text) (o : Option TableRows) → Passed rows last from → order_of last id ≡ Less → Reached from id o → Reached rows id o
+  reached_on from last None p h r = same_row from (p.later id h) ∙ r
+  reached_on from last (Some rest) p h q = (same_row from (p.later id h) ∙ q.0, passed_on from rest last p h q.1)
 
-module _ (cs : List Code) (s : List ℕ) (id : Text) (p n : ℕ) where
-  pub row_none : n ≡ 0 → located_in cs n (drop p s) id ≡ false
-  row_none h = ap (λ (m : ℕ). located_in cs m (drop p s) id) h ∙ no_rows cs (drop p s) id
+module _ (to : TableRows) (id : Text) where
+  abbrev head : Text
+  head = text_here (drop to.at to.bytes.now)
 
-  module _ (h : 0 < n) where
-    one_more : n ≡ suc (n - 1)
+  pub row_none : to.left ≡ 0 → located_of to id ≡ false
+  row_none h = ap (λ (m : ℕ). located_in to.codes.now m (drop to.at to.bytes.now) id) h ∙ no_rows to.codes.now (drop to.at to.bytes.now) id
+
+  module _ (h : 0 < to.left) where
+    one_more : to.left ≡ suc (to.left - 1)
     one_more = omega arith
 
-    pub row_later : order_of id (text_here (drop p s)) ≡ Less → located_in cs n (drop p s) id ≡ false
+    pub row_later : order_of id head ≡ Less → located_of to id ≡ false
     unfolding located_in seek
-    row_later o = rw (one_more, o) (none_at (drop p s))
+    row_later o = rw (one_more, o) (none_at (drop to.at to.bytes.now))
 
-    module _ (r : ℕ) (b : r ≡ place_of s (skip 0 cs (drop p s))) where
-      row_on : (k : Text) → order_of k (text_here (drop p s)) ≡ Greater → seek cs n k (drop p s) ≡ seek cs (n - 1) k (drop r s)
-      unfolding seek
-      row_on k o = ap (λ (m : ℕ). seek cs m k (drop p s)) one_more ∙ rw (o, b, after_record cs s p)
+    row_on : (k : Text) → order_of k head ≡ Greater → sought to k ≡ sought (after_row to) k
+    unfolding seek
+    row_on k o = ap (λ (m : ℕ). seek to.codes.now m k (drop to.at to.bytes.now)) one_more ∙ rw (o, after_record to.codes.now to.bytes.now to.at)
 
-      pub same_on : order_of id (text_here (drop p s)) ≡ Greater → located_in cs n (drop p s) id ≡ located_in cs (n - 1) (drop r s) id
-      same_on o = same_row cs n (drop p s) id (n - 1) (drop r s) (row_on id o)
+    pub same_on : order_of id head ≡ Greater → located_of to id ≡ located_of (after_row to) id
+    same_on o = same_row to id (after_row to) (row_on id o)
 
-      -- a row before the id is before each later one
-      pub passed_row : (m : ℕ) (u : List ℕ) → order_of id (text_here (drop p s)) ≡ Greater → Passed cs m u id n (drop p s) → Passed cs m u id (n - 1) (drop r s)
-      passed_row m u o q =
-          let t = text_here (drop p s) in
-          record {
-            later = λ k l.
-                let a : order_of t id ≡ Less = order_flip id t ∙ ap flip o in
-                let d : order_of k t ≡ Greater = order_flip t k ∙ ap flip (order_trans t id k a l) in
-                q.later k l ∙ row_on k d;
-          }
+    -- a row before the id is before each later one
+    pub passed_row : (rows : TableRows) → order_of id head ≡ Greater → Passed rows id to → Passed rows id (after_row to)
+    passed_row rows o q = record {
+      later = λ k l.
+          let a : order_of head id ≡ Less = order_flip id head ∙ ap flip o in
+          let d : order_of k head ≡ Greater = order_flip head k ∙ ap flip (order_trans head id k a l) in
+          q.later k l ∙ row_on k d;
+    }
 
 pub ruleset reach_steps = (row_none, passed_none, row_later, same_on, passed_row)

@@ -13,6 +13,7 @@ use Rattle.fields.specs.declared.Code.{Code}
 use Rattle.fields.specs.Codes.{codes}
 use Rattle.tables.specs.Seek.{seek, row_of}
 use Rattle.tables.specs.SeekLaws.{Hopped}
+use Rattle.tables.specs.declared.TableRows.{TableRows}
 use Rattle.image.specs.Shapes.{permit}
 use Rattle.image.specs.Layout.{TableName, reservations, map_of, row_format, Formed}
 use Rattle.image.specs.ImageParts.{row_bytes}
@@ -25,6 +26,10 @@ use Rattle.image.specs.declared.Table.{Table}
 
 unfoldable pub located_in : List Code → ℕ → List ℕ → Text → Bool
 located_in cs n s id = not (is_empty (row_of (seek cs n id s)))
+
+-- the same of some rows
+abbrev pub located_of : TableRows → Text → Bool
+located_of rows id = located_in rows.codes.now rows.left (drop rows.at rows.bytes.now) id
 
 -- a row is never empty
 abbrev NotEmpty : {A : Type 0} → (Entry A → List ℕ) → Type 0

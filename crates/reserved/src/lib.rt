@@ -1,49 +1,36 @@
 // Keys of a set that are ids of rows of a table: what a publication or a lease names and a reservation holds.
 #![tactic(auto)]
 
-ghost use Rattle.std.specs.Prelude.{◌≡◌, false, not, ◌&&◌, drop, IfNone, IfSome};
+ghost use Rattle.std.specs.Prelude.{◌≡◌, not, ◌&&◌, drop};
 ghost use Rattle.state.specs.Maps.{any};
 ghost use Rattle.sets.specs.Sets.{set_of};
-ghost use Rattle.reserved.specs.Located.{located_in, reserved_in};
+ghost use Rattle.reserved.specs.Located.{located_of, reserved_in};
 ghost use Rattle.reserved.specs.Passed.{Reached, Passed};
 
-use fields::Code;
 use image::Table;
 use std::cmp::Ordering;
+use tables::TableRows;
 
-// The rows of a table from one on: where it starts, and how many they are.
-#[derive(Clone, Copy)]
-struct Rest {
-    at: usize,
-    rows: usize,
-}
-
-// Whether a row of the table has the id.
+// Whether one of the rows has the id.
 #[tactic(auto, unfolding(crate::specs::Located::located_in))]
-pub fn located(codes: &[Code], s: &[u8], at: usize, n: usize, id: &[u8]) -> bool
-    ensures { result ≡ located_in codes.now n (drop at s.now) id.now }
+pub fn located(rows: TableRows<'_>, id: &[u8]) -> bool
+    ensures { result ≡ located_of rows.entry id.now }
 {
-    !tables::find(codes, s, at, n, id).is_empty()
+    !rows.find(id).is_empty()
 }
 
-// Goes over the rows before an id, which are before all later ids too; none is left where a row has the id.
+// Goes over the rows before an id, which are before all later ids too; none is left where a row has the id. By the rows that are
+// left and not one by one: those from the row at which it stops are what it hands on.
 #[tactic(auto, using(crate::proofs::Steps::reach_steps))]
-fn reach(codes: &[Code], s: &[u8], from: Rest, id: &[u8]) -> Option<Rest>
-    ensures { Reached codes.now from.rows s.now (drop from.at s.now) id.now result }
+fn reach<'a>(rows: TableRows<'a>, id: &[u8]) -> Option<TableRows<'a>>
+    ensures { Reached rows.entry id.now result }
 {
-    let mut to = from;
-    for _ in 0..from.rows {
-        match text::compare(id, fields::text_at(s, to.at)).order {
+    let mut to = rows;
+    while to.left > 0 {
+        match text::compare(id, fields::text_at(to.bytes, to.at)).order {
             Ordering::Less => return Some(to),
-            Ordering::Equal => {
-                return (!located(codes, s, to.at, to.rows, id)).then_some(to);
-            }
-            Ordering::Greater => {
-                to = Rest {
-                    at: tables::skip_record(codes, s, to.at),
-                    rows: to.rows - 1,
-                };
-            }
+            Ordering::Equal => return (!located(to, id)).then_some(to),
+            Ordering::Greater => to = to.after_first(),
         }
     }
     Some(to)
@@ -51,29 +38,35 @@ fn reach(codes: &[Code], s: &[u8], from: Rest, id: &[u8]) -> Option<Rest>
 
 // The search for an id, from where the search for the last one stopped if this one is later, else from the first row.
 #[tactic(auto, using(crate::proofs::Steps::reached_on))]
-fn resume(codes: &[Code], s: &[u8], all: Rest, last: &[u8], from: Rest, id: &[u8]) -> Option<Rest>
-    requires { Passed codes.now all.rows (drop all.at s.now) last.now from.rows (drop from.at s.now) }
-    ensures { Reached codes.now all.rows s.now (drop all.at s.now) id.now result }
+fn resume<'a>(
+    all: TableRows<'a>,
+    last: &[u8],
+    from: TableRows<'a>,
+    id: &[u8],
+) -> Option<TableRows<'a>>
+    requires { Passed all last.now from }
+    ensures { Reached all.entry id.now result }
 {
     if text::compare(last, id).order.is_lt() {
-        return reach(codes, s, from, id);
+        return reach(from, id);
     }
-    reach(codes, s, all, id)
+    reach(all, id)
 }
 
-// Whether a row of the table has a key of the set that stands at a place of a request or a row as its id.
+// Whether one of the rows has a key of the set that stands at a place of a request or a row as its id.
 #[tactic(auto, using(crate::proofs::Steps::set_steps))]
-fn any_located(codes: &[Code], s: &[u8], at: usize, n: usize, holder: &[u8], set_at: usize) -> bool
-    ensures { result ≡ any (located_in codes.now n (drop at s.now)) (set_of (drop set_at holder.now)) }
+fn any_located(rows: TableRows<'_>, holder: &[u8], set_at: usize) -> bool
+    ensures { result ≡ any (located_of rows.entry) (set_of (drop set_at holder.now)) }
 {
-    if n == 0 {
+    // a shortcut: where nothing is reserved, no key is looked at
+    if rows.left == 0 {
         return false;
     }
-    let all = Rest { at, rows: n };
-    let mut from = all;
+    let mut from = rows;
     let mut last: &[u8] = &[];
+    // a loop, and no chain, since each key hands on to the next where its search stopped
     for key in sets::keys(holder, set_at) {
-        let Some(rest) = resume(codes, s, all, last, from, key) else {
+        let Some(rest) = resume(rows, last, from, key) else {
             return true;
         };
         from = rest;
@@ -92,13 +85,11 @@ pub fn is_reserved(
 ) -> bool
     ensures { result ≡ (not ignore && reserved_in image.now reservations (set_of (drop keys holder.now))) }
 {
-    !ignore
-        && any_located(
-            &image::PERMIT,
-            image,
-            reservations.at,
-            reservations.count,
-            holder,
-            keys,
-        )
+    let rows = TableRows {
+        codes: &image::PERMIT,
+        bytes: image,
+        at: reservations.at,
+        left: reservations.count,
+    };
+    !ignore && any_located(rows, holder, keys)
 }

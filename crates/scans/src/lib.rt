@@ -1,15 +1,14 @@
 // Whether a key is in use: what the rows of intents, leases and jobs name, row by row.
 #![tactic(auto)]
 
-ghost use Rattle.std.specs.Prelude.{◌≡◌, drop};
+ghost use Rattle.std.specs.Prelude.{◌≡◌};
 ghost use Rattle.state.specs.Maps.{any};
-ghost use Rattle.fields.specs.Codes.{codes};
-ghost use Rattle.tables.specs.Seek.{rows_at};
-ghost use Rattle.image.specs.Shapes.{job};
+ghost use Rattle.tables.specs.Seek.{rows_left};
 ghost use Rattle.scans.specs.Scans.{names_at, uses_at};
 
 use fields::Code;
 use image::JOB;
+use tables::TableRows;
 
 // Whether a row names the key in its set that stands after the fields `hops`.
 #[tactic(auto, using(crate::proofs::Steps::after_head), unfolding(crate::specs::Scans::names_at))]
@@ -19,11 +18,11 @@ fn names(hops: &[Code], row: &[u8], key: &[u8]) -> bool
     sets::set_has(row, tables::skip_record(hops, row, 0), key)
 }
 
-// Whether one of n rows names the key in its set that stands after the fields `hops`.
-pub fn any_names(codes: &[Code], hops: &[Code], s: &[u8], at: usize, n: usize, key: &[u8]) -> bool
-    ensures { result ≡ any (names_at hops.now key.now) (rows_at codes.now n (drop at s.now)) }
+// Whether one of the rows names the key in its set that stands after the fields `hops`.
+pub fn any_names(mut rows: TableRows<'_>, hops: &[Code], key: &[u8]) -> bool
+    ensures { result ≡ any (names_at hops.now key.now) (rows_left rows.entry) }
 {
-    tables::rows(codes, s, at, n).any(|row| names(hops, row, key))
+    rows.any(|row| names(hops, row, key))
 }
 
 // Whether the key is the input manifest's of a job, or begins with its output namespace.
@@ -43,9 +42,9 @@ fn row_uses(row: &[u8], key: &[u8]) -> bool
     job_uses(reader::row_at(&JOB, row, 0), key)
 }
 
-// Whether one of n jobs uses the key.
-pub fn any_uses(s: &[u8], at: usize, n: usize, key: &[u8]) -> bool
-    ensures { result ≡ any (uses_at key.now) (rows_at (codes job) n (drop at s.now)) }
+// Whether one of the jobs uses the key.
+pub fn any_uses(mut rows: TableRows<'_>, key: &[u8]) -> bool
+    ensures { result ≡ any (uses_at key.now) (rows_left rows.entry) }
 {
-    tables::rows(&JOB, s, at, n).any(|row| row_uses(row, key))
+    rows.any(|row| row_uses(row, key))
 }

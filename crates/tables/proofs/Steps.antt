@@ -10,7 +10,7 @@ use Rattle.fields.specs.Codes.{hop, hops, hop_set, absent_codes, past, passed, s
 use Rattle.fields.specs.Walks.{place_of, Rest}
 use Rattle.fields.proofs.WalkLaws.{to_end, drop-within, end-at, rest-place, rest_trans, rest-drop, hop-rest}
 use Rattle.fields.specs.Rows.{text_here}
-use Rattle.tables.specs.Skips.{left_over, past_over, skip-cons, past_over-rest, skip-rest, after_record}
+use Rattle.tables.specs.Skips.{left_over, past_over, skip-cons, skip-rest, after_record}
 use Rattle.tables.specs.Seek.{seek, placed, row_of, rows_at}
 use Rattle.tables.specs.SeekLaws.{SeenIn, seek_in, row-places}
 use Rattle.tables.specs.declared.Place.{Place}
@@ -22,12 +22,15 @@ at_rest : (s : List ℕ) (p : ℕ) (r : List ℕ) → Rest (drop p s) r → drop
 at_rest s p r a = rest-place (rest_trans (rest-drop p s) a)
 
 module _ (s : List ℕ) (at : ℕ) where
-  pub further_is : (n : ℕ) → at ≤ length s → place_of s (drop n (drop at s)) ≡ min (at + n) (length s)
-  further_is n h = rw (drop-drop, length-drop) (omega arith)
+  pub further_is : (n w : ℕ) → w ≡ min at (length s) → drop (w + n) s ≡ drop n (drop at s)
+  further_is n w b = sym (drop-drop n w s) ∙ ap (drop n) (rw b (drop-within s at))
 
-  pub keys_none : length s ≤ at → place_of s (hop_set (drop at s)) ≡ length s
+  pub text_is : drop (place_of s (hop (drop at s))) s ≡ hop (drop at s)
+  text_is = at_rest s at (hop (drop at s)) (hop-rest (drop at s))
+
+  pub keys_none : length s ≤ at → hop_set (drop at s) ≡ drop at s
   unfolding hop_set
-  keys_none h = rw (drop_of_length-le s h) (omega arith)
+  keys_none h = rw (drop_of_length-le s h)
 
   pub keys_some : at < length s → hop_set (drop at s) ≡ hops (get_or s at 0) (drop (at + 1) s)
   unfolding hop_set
@@ -42,48 +45,60 @@ module _ (s : List ℕ) (at : ℕ) where
 -- ---- texts, one after the other
 
 module _ (s : List ℕ) (p n i : ℕ) where
-  pub hops_none : n ≤ i → p ≤ length s → place_of s (hops (n - i) (drop p s)) ≡ p
+  pub hops_none : n ≤ i → hops (n - i) (drop p s) ≡ drop p s
   unfolding hops
-  hops_none h b = let z : n - i ≡ 0 = omega arith in rw (z, end-at s p b)
+  hops_none h = let z : n - i ≡ 0 = omega arith in rw z
 
   pub hops_more : i < n → hops (n - i) (drop p s) ≡ hops (n - (i + 1)) (drop (place_of s (hop (drop p s))) s)
   unfolding hops
-  hops_more h = let z : n - i ≡ suc (n - (i + 1)) = omega arith in rw (z, at_rest s p (hop (drop p s)) (hop-rest (drop p s)))
+  hops_more h = let z : n - i ≡ suc (n - (i + 1)) = omega arith in rw (z, text_is s p)
 
-pub ruleset hop_steps = (further_is, keys_none, keys_some, absent_none, absent_some, hops_none, hops_more)
+pub ruleset hop_steps = (further_is, text_is, keys_none, keys_some, absent_none, absent_some, hops_none, hops_more)
 
 -- ---- a record, code by code
 
 module _ (cs : List Code) (s : List ℕ) (i p k : ℕ) where
-  pub skip_none : length cs ≤ i → p ≤ length s → place_of s (skip k (drop i cs) (drop p s)) ≡ p
+  pub skip_none : length cs ≤ i → place_of s (skip k (drop i cs) (drop p s)) ≡ min p (length s)
   unfolding skip
-  skip_none h b = rw (drop_of_length-le cs h, end-at s p b)
+  skip_none h = rw (drop_of_length-le cs h, length-drop) (omega arith)
 
   abbrev code : Code
   code = get_or cs i (Number 0)
 
-  pub skip_more : i < length cs → skip k (drop i cs) (drop p s) ≡ skip (left_over k code (drop p s)) (drop (i + 1) cs) (drop (place_of s (past_over k code (drop p s))) s)
-  skip_more h =
+  pub skip_more : (q m : ℕ) → drop q s ≡ past_over k code (drop p s) → m ≡ left_over k code (drop p s) → i < length cs → skip k (drop i cs) (drop p s) ≡ skip m (drop (i + 1) cs) (drop q s)
+  skip_more q m r o h =
       ap (λ (l : List Code). skip k l (drop p s)) (rw (drop-cons cs i (Number 0) h, add-one) refl)
       ∙ skip-cons k code (drop (i + 1) cs) (drop p s)
-      ∙ ap (skip (left_over k code (drop p s)) (drop (i + 1) cs)) (sym (at_rest s p (past_over k code (drop p s)) (past_over-rest k code (drop p s))))
+      ∙ (λ j. skip (sym o j) (drop (i + 1) cs) (sym r j))
 
 module _ (s : List ℕ) (k : ℕ) (c : Code) where
-  pub on_here : k ≡ 0 → (left_over k c s ≡ passed c s) × (past_over k c s ≡ past c s)
-  unfolding left_over past_over
-  on_here h = (rw h, rw h)
+  pub left_here : k ≡ 0 → left_over k c s ≡ passed c s
+  unfolding left_over
+  left_here h = rw h
 
-  pub on_pass : (k ≡ 0 → ⊥) → (left_over k c s ≡ k - 1) × (past_over k c s ≡ s)
-  unfolding left_over past_over
-  on_pass z = go k z
+  pub past_here : (r : List ℕ) → r ≡ past c s → k ≡ 0 → r ≡ past_over k c s
+  unfolding past_over
+  past_here r e h = rw h e
+
+  pub left_pass : (k ≡ 0 → ⊥) → left_over k c s ≡ k - 1
+  unfolding left_over
+  left_pass z = go k z
     where
-      go : (k : ℕ) → (k ≡ 0 → ⊥) → (left_over k c s ≡ k - 1) × (past_over k c s ≡ s)
+      go : (k : ℕ) → (k ≡ 0 → ⊥) → left_over k c s ≡ k - 1
       go zero z = absurd (z refl)
-      go (suc k) z = (omega arith, refl)
+      go (suc k) z = omega arith
 
-pub ruleset on_steps = (on_here, on_pass, end-at)
+  pub past_pass : (k ≡ 0 → ⊥) → s ≡ past_over k c s
+  unfolding past_over
+  past_pass z = go k z
+    where
+      go : (k : ℕ) → (k ≡ 0 → ⊥) → s ≡ past_over k c s
+      go zero z = absurd (z refl)
+      go (suc k) z = refl
 
-pub ruleset skip_steps = (skip_none, skip_more, drop-within)
+pub ruleset on_steps = (left_here, past_here, left_pass, past_pass)
+
+pub ruleset skip_steps = (skip_none, skip_more)
 
 -- ---- rows
 
@@ -120,17 +135,17 @@ find_part cs n id s at p e =
 
 -- ---- rows, one by one
 
-module _ (cs : List Code) (s : List ℕ) (k : ℕ) where
-  pub rows_done : k ≡ 0 → rows_at cs k s ≡ []
+module _ (cs : List Code) (s : List ℕ) (p k : ℕ) where
+  pub rows_done : k ≡ 0 → rows_at cs k (drop p s) ≡ []
   unfolding rows_at
   rows_done h = rw h
 
-  -- where the next row starts at a place of this one's bytes
-  pub rows_next : (e : ℕ) → e ≡ place_of s (skip 0 cs (drop 0 s)) → (k ≡ 0 → ⊥) → rows_at cs k s ≡ s ∷ rows_at cs (k - 1) (take (length s - e) (drop e s))
+  -- what is left from a row on, cut off at the end, and from where it ends
+  pub rows_next : (w e : ℕ) → w ≡ min p (length s) → e ≡ place_of s (skip 0 cs (drop p s)) → (k ≡ 0 → ⊥) → rows_at cs k (drop p s) ≡ take (length s - w) (drop w s) ∷ rows_at cs (k - 1) (drop e s)
   unfolding rows_at
-  rows_next e h z = rw (to_end s e, h, after_record cs s 0) (go k z)
+  rows_next w e b h z = rw (to_end s w, b, drop-within s p, h, after_record cs s p) (go k z)
     where
-      go : (k : ℕ) → (k ≡ 0 → ⊥) → rows_at cs k s ≡ s ∷ rows_at cs (k - 1) (skip 0 cs s)
+      go : (k : ℕ) → (k ≡ 0 → ⊥) → rows_at cs k (drop p s) ≡ drop p s ∷ rows_at cs (k - 1) (skip 0 cs (drop p s))
       go zero z = absurd (z refl)
       go (suc k) z = let y : suc k - 1 ≡ k = omega arith in rw y
 

@@ -1,5 +1,5 @@
 -- Where a key stands, or would stand, among rows that ascend by the text at their head.
-use Rattle.std.specs.Prelude.{ℕ, zero, suc, ◌-◌, List, [], ◌∷◌, length, take}
+use Rattle.std.specs.Prelude.{ℕ, zero, suc, ◌-◌, List, [], ◌∷◌, length, take, drop}
 use Rattle.text.specs.Order.{order_of}
 use Rattle.state.specs.Maps.{Text, side}
 use Rattle.fields.specs.declared.Code.{Code}
@@ -35,4 +35,8 @@ rows_at cs (suc n) s = s ∷ rows_at cs n (skip 0 cs s)
 
 -- those that an iterator over rows has yet to give
 abbrev pub rows_left : TableRows → List (List ℕ)
-rows_left r = rows_at r.codes.now r.left r.rest.now
+rows_left r = rows_at r.codes.now r.left (drop r.at r.bytes.now)
+
+-- those but for the first, which start where it ends
+abbrev pub after_row : TableRows → TableRows
+after_row r = record { codes = r.codes; bytes = r.bytes; at = place_of r.bytes.now (skip 0 r.codes.now (drop r.at r.bytes.now)); left = r.left - 1 }

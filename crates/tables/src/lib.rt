@@ -1,7 +1,7 @@
 // Records and tables of bytes that were checked before: hops by length bytes, lookup by id, rows one by one.
 #![tactic(auto)]
 
-ghost use Rattle.std.specs.Prelude.{◌≡◌, ◌-◌, ◌≤◌, length, take, drop};
+ghost use Rattle.std.specs.Prelude.{◌≡◌, ◌-◌, take, drop};
 ghost use Rattle.std.specs.Iterator.{YieldsFirstRef, item_count};
 ghost use Rattle.fields.specs.Codes.{hops, hop_set, past, passed, skip};
 ghost use Rattle.fields.specs.Walks.{place_of};
@@ -9,39 +9,39 @@ ghost use Rattle.fields.specs.Rows.{text_here};
 ghost use Rattle.parts.specs.Digits.{value};
 ghost use Rattle.parts.specs.Gather.{run};
 ghost use Rattle.tables.specs.Skips.{left_over, past_over};
-ghost use Rattle.tables.specs.Seek.{seek, placed, row_of, rows_at, rows_left};
+ghost use Rattle.tables.specs.Seek.{seek, placed, row_of, rows_left, after_row};
 
 use fields::{Code, Hop};
 use std::cmp::Ordering;
 
-// Where a row starts and ends; start and end are the same where there is none.
+// Where a row starts and ends. No Option: start and end are the same where there is none, and a change puts what it writes in
+// place of start..end in both cases.
 #[derive(Clone, Copy, Debug, PartialEq, Eq)]
 pub struct Place {
     pub start: usize,
     pub end: usize,
 }
 
-// The rows of a table from one on, each as the bytes from its start to the end of all.
-#[derive(Clone, Copy)]
+// The rows of a table from one on: their codes, the bytes they stand in, where the next one starts, and how many are left.
+#[derive(Clone, Copy, Debug, PartialEq, Eq)]
 pub struct TableRows<'a> {
     pub codes: &'a [Code],
-    pub rest: &'a [u8],
+    pub bytes: &'a [u8],
+    pub at: usize,
     pub left: usize,
 }
 
-// n bytes further, and no further than the end.
+// n bytes further. Each hop promises what is left from its place on, so that it asks for no bound: past the end nothing is left.
 #[tactic(auto, using(crate::proofs::Steps::hop_steps))]
 fn further(s: &[u8], at: usize, n: u8) -> usize
-    requires { at ≤ length s.now }
-    ensures { result ≡ place_of s.now (drop n (drop at s.now)) }
+    ensures { drop result s.now ≡ drop n (drop at s.now) }
 {
-    (at + n as usize).min(s.len())
+    fields::within(s, at) + n as usize
 }
 
 #[tactic(auto, using(crate::proofs::Steps::hop_steps))]
 fn hop_texts(s: &[u8], at: usize, n: u8) -> usize
-    requires { at ≤ length s.now }
-    ensures { result ≡ place_of s.now (hops n (drop at s.now)) }
+    ensures { drop result s.now ≡ hops n (drop at s.now) }
 {
     let mut p = at;
     for _ in 0..n {
@@ -52,19 +52,19 @@ fn hop_texts(s: &[u8], at: usize, n: u8) -> usize
 
 #[tactic(auto, using(crate::proofs::Steps::hop_steps))]
 fn hop_keys(s: &[u8], at: usize) -> usize
-    ensures { result ≡ place_of s.now (hop_set (drop at s.now)) }
+    ensures { drop result s.now ≡ hop_set (drop at s.now) }
 {
     match s.get(at) {
         Some(n) => hop_texts(s, at + 1, *n),
-        None => s.len(),
+        None => at,
     }
 }
 
 // Past one code. Where the byte of an option is 0, the codes of its value are passed over.
 #[tactic(auto, using(crate::proofs::Steps::hop_steps), unfolding(fields::specs::Codes::past, fields::specs::Codes::passed))]
 fn hop_code(code: Code, s: &[u8], at: usize) -> Hop
-    requires { at ≤ length s.now }
-    ensures { result ≡ record { at = place_of s.now (past code (drop at s.now)); over = passed code (drop at s.now) } }
+    ensures rest { drop result.at s.now ≡ past code (drop at s.now) }
+    ensures over { result.over ≡ passed code (drop at s.now) }
 {
     match code {
         Code::Number(n) => Hop::to(further(s, at, n)),
@@ -84,8 +84,8 @@ fn hop_code(code: Code, s: &[u8], at: usize) -> Hop
 // The same where so many codes are yet to be passed over.
 #[tactic(auto, using(crate::proofs::Steps::on_steps))]
 fn hop_on(from: Hop, code: Code, s: &[u8]) -> Hop
-    requires { from.at ≤ length s.now }
-    ensures { result ≡ record { at = place_of s.now (past_over from.over code (drop from.at s.now)); over = left_over from.over code (drop from.at s.now) } }
+    ensures rest { drop result.at s.now ≡ past_over from.over code (drop from.at s.now) }
+    ensures over { result.over ≡ left_over from.over code (drop from.at s.now) }
 {
     if from.over == 0 {
         return hop_code(code, s, from.at);
@@ -101,47 +101,19 @@ fn hop_on(from: Hop, code: Code, s: &[u8]) -> Hop
 pub fn skip_record(codes: &[Code], s: &[u8], at: usize) -> usize
     ensures { result ≡ place_of s.now (skip 0 codes.now (drop at s.now)) }
 {
-    let mut here = Hop::to(fields::within(s, at));
+    let mut here = Hop::to(at);
     for code in codes {
         here = hop_on(here, *code, s);
     }
-    here.at
+    fields::within(s, here.at)
 }
 
-// Where the row with an id stands, or would stand, among n rows of these codes that start at a place.
-#[tactic(auto, using(crate::proofs::Steps::seek_steps))]
-pub fn locate(codes: &[Code], s: &[u8], at: usize, n: usize, id: &[u8]) -> Place
-    ensures { result ≡ placed s.now (seek codes.now n id.now (drop at s.now)) }
-{
-    let mut p = fields::within(s, at);
-    for _ in 0..n {
-        match text::compare(id, fields::text_at(s, p)).order {
-            Ordering::Less => return Place { start: p, end: p },
-            Ordering::Equal => {
-                return Place {
-                    start: p,
-                    end: skip_record(codes, s, p),
-                };
-            }
-            Ordering::Greater => p = skip_record(codes, s, p),
-        }
-    }
-    Place { start: p, end: p }
-}
-
-// The row that `locate` found, as a part of s; empty where there is none.
+// The row that `locate` found, as a part of s. No Option: it is empty where there is none, which no row is, and what a row
+// holds after its id is compared with what a request expects, and both are empty where there is none.
 pub fn row<'a>(s: &'a [u8], p: Place) -> &'a [u8]
     ensures { result.now ≡ run s.now p.start (p.end - p.start) }
 {
     parts::clip(s, p.start, p.end.saturating_sub(p.start))
-}
-
-// The row with an id, as a part of s; empty where there is none.
-#[tactic(auto, using(crate::proofs::Steps::find_part))]
-pub fn find<'a>(codes: &[Code], s: &'a [u8], at: usize, n: usize, id: &[u8]) -> &'a [u8]
-    ensures { result.now ≡ row_of (seek codes.now n id.now (drop at s.now)) }
-{
-    row(s, locate(codes, s, at, n, id))
 }
 
 // The number that stands in the record at a place behind some of its fields.
@@ -160,17 +132,49 @@ pub fn text_after<'a>(before: &[Code], s: &'a [u8], at: usize) -> &'a [u8]
     fields::text_at(s, skip_record(before, s, at))
 }
 
-// n rows of these codes that start at a place.
-pub fn rows<'a>(codes: &'a [Code], s: &'a [u8], at: usize, n: usize) -> TableRows<'a>
-    ensures { rows_left result ≡ rows_at codes.now n (drop at s.now) }
-{
-    TableRows {
-        codes,
-        rest: &s[fields::within(s, at)..],
-        left: n,
+impl<'a> TableRows<'a> {
+    // Where the row with an id stands, or would stand. A loop by place, which goes over no row but those before the id.
+    #[tactic(auto, using(crate::proofs::Steps::seek_steps))]
+    pub fn locate(self, id: &[u8]) -> Place
+        ensures { result ≡ placed self.entry.bytes.now (seek self.entry.codes.now self.entry.left id.now (drop self.entry.at self.entry.bytes.now)) }
+    {
+        let mut p = fields::within(self.bytes, self.at);
+        for _ in 0..self.left {
+            match text::compare(id, fields::text_at(self.bytes, p)).order {
+                Ordering::Less => return Place { start: p, end: p },
+                Ordering::Equal => {
+                    return Place {
+                        start: p,
+                        end: skip_record(self.codes, self.bytes, p),
+                    };
+                }
+                Ordering::Greater => p = skip_record(self.codes, self.bytes, p),
+            }
+        }
+        Place { start: p, end: p }
+    }
+
+    // The row with an id, as a part of the bytes; empty where there is none, as `row` says.
+    #[tactic(auto, using(crate::proofs::Steps::find_part))]
+    pub fn find(self, id: &[u8]) -> &'a [u8]
+        ensures { result.now ≡ row_of (seek self.entry.codes.now self.entry.left id.now (drop self.entry.at self.entry.bytes.now)) }
+    {
+        row(self.bytes, self.locate(id))
+    }
+
+    // The rows but for the first of them.
+    pub fn after_first(self) -> TableRows<'a>
+        ensures { result ≡ after_row self.entry }
+    {
+        TableRows {
+            at: skip_record(self.codes, self.bytes, self.at),
+            left: self.left.saturating_sub(1),
+            ..self
+        }
     }
 }
 
+// Each row as the bytes from its start to the end of all; where it starts is `at` before the call.
 impl<'a> Iterator for TableRows<'a> {
     type Item = &'a [u8];
 
@@ -183,9 +187,8 @@ impl<'a> Iterator for TableRows<'a> {
         if self.left == 0 {
             return None;
         }
-        let row = self.rest;
-        self.left -= 1;
-        self.rest = &row[skip_record(self.codes, row, 0)..];
+        let row = &self.bytes[fields::within(self.bytes, self.at)..];
+        *self = self.after_first();
         Some(row)
     }
 }

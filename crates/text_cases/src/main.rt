@@ -13,49 +13,12 @@
 // Any other line is written as it is.
 #![tactic(auto)]
 
-ghost use Rattle.std.specs.Prelude.{◌≤◌};
+ghost use Rattle.std.specs.Prelude.{◌≡◌, ◌≤◌, length};
 
 use std::cmp::Ordering;
+use std::io::Read;
+use std::{fmt, io};
 use text::Compared;
-
-// The numbers of the standard input and output.
-const STDIN: i32 = 0;
-
-const STDOUT: i32 = 1;
-
-fn write(s: &[u8]) {
-    io::write_all(STDOUT, s);
-}
-
-fn write_bool(yes: bool) {
-    if yes {
-        write(b" yes");
-    } else {
-        write(b" no");
-    }
-}
-
-fn write_number(n: usize) {
-    io::print_decimal(STDOUT, n as u64);
-}
-
-fn write_order(c: Compared) {
-    match c.order {
-        Ordering::Less => write(b" less "),
-        Ordering::Equal => write(b" equal "),
-        Ordering::Greater => write(b" greater "),
-    }
-    write_number(c.steps);
-}
-
-fn write_sign(c: Compared) {
-    match c.order {
-        Ordering::Less => write(b"<"),
-        Ordering::Equal => write(b"="),
-        Ordering::Greater => write(b">"),
-    }
-    write_number(c.steps);
-}
 
 // The value of a hex digit, and 0 of any other byte.
 fn digit(x: u8) -> u8
@@ -90,21 +53,6 @@ fn from_hex(hex: &[u8]) -> bool {
     }
 }
 
-fn each_lead(hex: &[u8]) {
-    write(b" ");
-    for x in 0..=255 {
-        write_digit(after(x, hex));
-    }
-}
-
-fn write_digit(yes: bool) {
-    if yes {
-        write(b"1");
-    } else {
-        write(b"0");
-    }
-}
-
 // Bytes that two texts have where they differ, by turns: the neighbours of 0x80, the ends of all bytes, and two above 0x80.
 // In 24 bytes each of the three stands at each place of a word.
 const SMALLER: [u8; 24] = [
@@ -117,86 +65,136 @@ const LARGER: [u8; 24] = [
     0xFF, 0xFF, 0x80, 0xFF, 0xFF, 0x80, 0xFF, 0xFF,
 ];
 
-// Compares the first n bytes of one with the first m of the other.
-fn compare_heads(a: [u8; 24], n: usize, b: [u8; 24], m: usize)
-    requires { (n ≤ 24) × (m ≤ 24) }
-{
-    write_sign(text::compare(&a[..n], &b[..m]));
+// What is answered to a case.
+#[derive(Clone, Copy)]
+enum Answer<'a> {
+    Truth(bool),
+    Order(Compared),
+    // the bytes that the digits write, after each byte
+    EachLead { hex: &'a [u8] },
+    // two lengths
+    EachPlace { n: usize, m: usize },
 }
 
-// Before the place of the first difference both texts are the same, and after it each byte says the contrary.
-fn each_place(n: usize, m: usize)
-    requires { (n ≤ 24) × (m ≤ 24) }
-{
-    write(b" ");
-    let mut a = LARGER;
-    let mut b = SMALLER;
-    for d in 0..n.min(m) {
-        a[d] = SMALLER[d];
-        b[d] = LARGER[d];
-        compare_heads(a, n, b, m);
-        compare_heads(b, n, a, m);
-        b[d] = SMALLER[d];
-    }
-    compare_heads(b, n, b, m);
-}
-
-// The number that two digits write, up to 24.
-fn up_to_24(tens: u8, ones: u8) -> usize
-    ensures { result ≤ 24 }
-{
-    usize::from(digit(tens) * 10 + digit(ones)).min(24)
-}
-
-fn two_lengths(s: &[u8]) {
-    if let [a, b, _, c, d, ..] = s {
-        each_place(up_to_24(*a, *b), up_to_24(*c, *d));
-    }
+// The number that two digits write.
+fn number(tens: u8, ones: u8) -> usize {
+    usize::from(digit(tens)) * 10 + usize::from(digit(ones))
 }
 
 fn ends_with(s: &[u8], b: &[u8]) -> bool {
     b.first().is_some_and(|x| text::ends_with_byte(s, *x))
 }
 
-// The answer to a case of two texts with a space between.
-fn two_texts(case: u8, s: &[u8]) {
-    let Some(at) = s.iter().position(|x| *x == b' ') else {
-        return;
-    };
-    let (a, b) = (&s[..at], &s[at + 1..]);
-    match case {
-        b'c' => write_order(text::compare(a, b)),
-        b's' => write_bool(text::same(a, b)),
-        b'p' => write_bool(text::starts_with(a, b)),
-        b'e' => write_bool(ends_with(a, b)),
-        _ => {}
+impl<'a> Answer<'a> {
+    // To a line, where it is a case.
+    fn of(line: &'a [u8]) -> Option<Answer<'a>> {
+        let [case, _, rest @ ..] = line else {
+            return None;
+        };
+        match *case {
+            b'u' => Some(Answer::Truth(from_hex(rest))),
+            b'l' => Some(Answer::EachLead { hex: rest }),
+            b'h' => Some(Answer::Truth(text::valid_sha256(rest))),
+            b'w' => Answer::of_lengths(rest),
+            _ => Answer::of_texts(*case, rest),
+        }
+    }
+
+    fn of_lengths(s: &[u8]) -> Option<Answer<'a>> {
+        let [a, b, _, c, d, ..] = s else {
+            return None;
+        };
+        Some(Answer::EachPlace {
+            n: number(*a, *b),
+            m: number(*c, *d),
+        })
+    }
+
+    // To a case of two texts with a space between.
+    fn of_texts(case: u8, s: &[u8]) -> Option<Answer<'a>> {
+        let at = s.iter().position(|x| *x == b' ')?;
+        let (a, b) = (&s[..at], &s[at + 1..]);
+        match case {
+            b'c' => Some(Answer::Order(text::compare(a, b))),
+            b's' => Some(Answer::Truth(text::same(a, b))),
+            b'p' => Some(Answer::Truth(text::starts_with(a, b))),
+            b'e' => Some(Answer::Truth(ends_with(a, b))),
+            _ => None,
+        }
     }
 }
 
-fn answer(line: &[u8]) {
-    let [case, _, rest @ ..] = line else {
-        return;
-    };
-    match *case {
-        b'u' => write_bool(from_hex(rest)),
-        b'l' => each_lead(rest),
-        b'h' => write_bool(text::valid_sha256(rest)),
-        b'w' => two_lengths(rest),
-        _ => two_texts(*case, rest),
+impl fmt::Display for Answer<'_> {
+    fn fmt<W: fmt::Write>(&self, f: &mut fmt::Formatter<W>) -> fmt::Result {
+        match *self {
+            Answer::Truth(true) => write!(f, "yes"),
+            Answer::Truth(false) => write!(f, "no"),
+            Answer::Order(Compared { order, steps }) => {
+                let order = match order {
+                    Ordering::Less => "less",
+                    Ordering::Equal => "equal",
+                    Ordering::Greater => "greater",
+                };
+                write!(f, "{order} {steps}")
+            }
+            Answer::EachLead { hex } => each_lead(f, hex),
+            Answer::EachPlace { n, m } => each_place(f, n.min(24), m.min(24)),
+        }
     }
 }
 
-fn each_line(s: &[u8]) {
-    for line in s.split_inclusive(|x| *x == b'\n') {
+fn each_lead<W: fmt::Write>(f: &mut fmt::Formatter<W>, hex: &[u8]) -> fmt::Result {
+    for x in 0..=255 {
+        let digit = u8::from(after(x, hex));
+        write!(f, "{digit}")?;
+    }
+    Ok(())
+}
+
+fn compare<W: fmt::Write>(f: &mut fmt::Formatter<W>, a: &[u8], b: &[u8]) -> fmt::Result {
+    let Compared { order, steps } = text::compare(a, b);
+    let sign = match order {
+        Ordering::Less => "<",
+        Ordering::Equal => "=",
+        Ordering::Greater => ">",
+    };
+    write!(f, "{sign}{steps}")
+}
+
+// Before the place of the first difference both texts are the same, and after it each byte says the contrary.
+fn each_place<W: fmt::Write>(f: &mut fmt::Formatter<W>, n: usize, m: usize) -> fmt::Result
+    requires { (n ≤ 24) × (m ≤ 24) }
+{
+    let mut a = LARGER;
+    let mut b = SMALLER;
+    for d in 0..n.min(m) {
+        a[d] = SMALLER[d];
+        b[d] = LARGER[d];
+        compare(f, &a[..n], &b[..m])?;
+        compare(f, &b[..n], &a[..m])?;
+        b[d] = SMALLER[d];
+    }
+    compare(f, &b[..n], &b[..m])
+}
+
+// Line by line. What cannot be written is passed over.
+fn run(rt: &impl Print, cases: &[u8]) {
+    for line in cases.split_inclusive(|x| *x == b'\n') {
         let line = line.strip_suffix(b"\n").unwrap_or(line);
-        write(line);
-        answer(line);
-        write(b"\n");
+        let _ = rt.write_all(line);
+        if let Some(answer) = Answer::of(line) {
+            let _ = print!(rt; " {answer}");
+        }
+        let _ = println!(rt; "");
     }
 }
 
-fn main() {
-    let mut input = io::large_buffer();
-    let n = io::read_full(STDIN, &mut input);
-    each_line(&input[..n]);
+fn main(rt: HostRuntime) {
+    let mut cases = [0; 65536];
+    let room = cases.len();
+    let mut left = &mut cases[..];
+    // a read that fails ends the cases
+    let _ = io::copy(&mut rt.reader().take(room as u64), &mut left);
+    let read = room.saturating_sub(left.len());
+    run(&rt, &cases[..read]);
 }

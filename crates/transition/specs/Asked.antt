@@ -3,10 +3,10 @@ use Rattle.std.specs.Prelude.{ℕ, true, false, List, ◌≡◌, eqb, length, No
 use Rattle.std.specs.Result.{IsErrAnd}
 use Rattle.std.proofs.Common.{sym, ap, ◌∙◌, subst}
 use borrow.Author.Tests.{eq-eqb, ne_eqb}
-use Rattle.refusals.specs.Numbers.{number, numbered}
+use Rattle.refusals.specs.Numbers.{number}
 use Rattle.refusals.specs.declared.Refusal.{Refusal}
 use Rattle.refusals.specs.declared.Refusal.TheVariants.{NotAnImage, InvalidRequest}
-use Rattle.parts.specs.Answer.{no, Gave, gave_no, gave_exit}
+use Rattle.parts.specs.Answer.{Gave, gave_no, gave_exit}
 use Rattle.parts.specs.Digits.{Bytes}
 use Rattle.parts.specs.declared.Lengths.{Lengths}
 use Rattle.state.specs.Records.{State, AuthorityContext, PublicationAuthorityFaults, valid_context}

@@ -14,24 +14,25 @@ use refusals::Refusal;
 use requests::PublicationAction;
 
 // The `match` of the Rust's `apply`: each action to its own transition.
+#[tactic(auto, using(crate::specs::Asked::with_action))]
 fn apply_action(
-    call: Call<'_>,
-    action: PublicationAction,
+    call: &Call<'_>,
+    action: &PublicationAction,
     next: &mut [u8],
     outcome: &mut [u8],
 ) -> Result<Lengths, Refusal>
-    requires { Asks call action }
-    ensures { Answers call.entry next.old outcome.old result next.new outcome.new }
+    requires { Asks call.now action.now }
+    ensures { Answers call.now next.old outcome.old result next.new outcome.new }
 {
     match action {
         PublicationAction::ObserveCommittedFrontier(a) => floor::observe_committed_frontier(
-            call, a, next, outcome,
+            call, *a, next, outcome,
         ),
         PublicationAction::SetRetentionWindow(a) => floor::set_retention_window(
             call, a, next, outcome,
         ),
         PublicationAction::ObserveRangeMapEpoch(a) => floor::observe_range_map_epoch(
-            call, a, next, outcome,
+            call, *a, next, outcome,
         ),
         PublicationAction::ConfigureCollectionRoot(a) => collection::configure_collection_root(
             call, a, next, outcome,
@@ -62,13 +63,13 @@ fn apply_action(
 
 // Format and context come before every action.
 fn apply_request(
-    call: Call<'_>,
-    action: PublicationAction,
+    call: &Call<'_>,
+    action: &PublicationAction,
     next: &mut [u8],
     outcome: &mut [u8],
 ) -> Result<Lengths, Refusal>
-    requires { Asked call.image.now call.contents call.request.now (asking call action) }
-    ensures { Answers call.entry next.old outcome.old result next.new outcome.new }
+    requires { Asked call.now.image.now call.now.contents.now call.now.request.now (asking call.now action.now) }
+    ensures { Answers call.now next.old outcome.old result next.new outcome.new }
 {
     if call.contents.format_version != 1 {
         return Err(Refusal::InvalidRequest);
@@ -96,10 +97,10 @@ pub fn apply(
     let asked = requests::parse(request)?;
     let call = Call {
         image,
-        contents,
+        contents: &contents,
         request,
         context: asked.context,
         faults: asked.faults,
     };
-    apply_request(call, asked.action, next, outcome)
+    apply_request(&call, &asked.action, next, outcome)
 }

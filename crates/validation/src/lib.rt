@@ -10,6 +10,7 @@ ghost use Rattle.validation.specs.Validation.{tests};
 use image::Contents;
 use refusals::Refusal;
 use requests::SnapshotLeaseToken;
+use tables::TableRows;
 
 // The Rust's `SnapshotLeaseValidationError`, in declared order; and why bytes that were lent are no image or no token.
 #[derive(Clone, Copy, Debug, PartialEq, Eq)]
@@ -46,18 +47,23 @@ impl SnapshotLeaseValidationError {
 // The Rust's tests in its order, on an image that was opened and a token that was read.
 fn validate_opened(
     image: &[u8],
-    c: Contents,
+    c: &Contents,
     token: &[u8],
-    t: SnapshotLeaseToken,
+    t: &SnapshotLeaseToken,
 ) -> Result<(), SnapshotLeaseValidationError>
-    ensures { told result ≡ tests image.now c token.now t }
+    ensures { told result ≡ tests image.now c.now token.now t.now }
 {
     if c.format_version != 1 {
         return Err(SnapshotLeaseValidationError::AuthorityFormatInvalid);
     }
     let leases = c.tables[image::LEASES];
-    let id = requests::text_of(token, t.lease_id);
-    let active = tables::find(&image::LEASE, image, leases.at, leases.count, id);
+    let rows = TableRows {
+        codes: &image::LEASE,
+        bytes: image,
+        at: leases.at,
+        left: leases.count,
+    };
+    let active = rows.find(requests::text_of(token, t.lease_id));
     if active.is_empty() {
         return Err(SnapshotLeaseValidationError::LeaseMissing);
     }
@@ -78,5 +84,5 @@ pub fn validate_active_snapshot_lease(
 {
     let c = image::open(image).ok_or(Refusal::NotAnImage)?;
     let t = requests::parse_token(token)?;
-    validate_opened(image, c, token, t)
+    validate_opened(image, &c, token, &t)
 }

@@ -41,9 +41,9 @@ emit-requires c = let r = c.requires in
 pub returns : goal.returns
 returns c = let r = c.requires in
     let a = c.args in
-    done r (collection_published r.state (receipt r).token (receipt r).output_manifest) (CollectionPublished (receipt r)) a.call.image.now _
-    (First (tables_place a.call.contents) c.saturating_sub-ahead.result ∷ Second c.skip_record-root_at.result (length c.text_of-root.result.now + 1) ∷ Second c.skip_record-start.result c.saturating_sub-size.result ∷ First c.locate-spot.result.end c.saturating_sub-between.result ∷ First c.locate-gone.result.end (length a.call.image.now) ∷ [])
-    a.call.image.now (PublicationOutcome.CollectionPublished a.a)
+    done r (collection_published r.state (receipt r).token (receipt r).output_manifest) (CollectionPublished (receipt r)) a.call.now.image.now _
+    (First (tables_place a.call.now.contents.now) c.saturating_sub-ahead.result ∷ Second c.skip_record-root_at.result (length c.text_of-root.result.now + 1) ∷ Second c.skip_record-start.result c.saturating_sub-size.result ∷ First c.locate-spot.result.end c.saturating_sub-between.result ∷ First c.locate-gone.result.end (length a.call.now.image.now) ∷ [])
+    a.call.now.image.now (PublicationOutcome.CollectionPublished a.a.now)
     (published r _ _ c.text_of-id.ensures c.text_of-root.ensures _ c.locate-spot.ensures _ c.locate-gone.ensures _ _ c.row-held.ensures c.row-stored.ensures _ c.input_stands-stands.ensures _ c.in_ok-publish_refusal.ensures refl)
     (published_shows r _ _ c.text_of-id.ensures c.text_of-root.ensures _ c.locate-spot.ensures _ c.locate-gone.ensures _ c.skip_record-root_at.ensures _ c.skip_record-start.ensures _ c.skip_record.ensures _ c.saturating_sub-size.ensures _ _ c.after_insert-more.ensures c.after_remove-left.ensures _ c.raised-d.ensures)
     (published_body r _ _ c.text_of-id.ensures c.text_of-root.ensures _ c.locate-spot.ensures _ c.locate-gone.ensures _ c.skip_record-root_at.ensures _ c.skip_record-start.ensures _ c.skip_record.ensures _ c.saturating_sub-size.ensures _ _ c.saturating_sub-ahead.ensures c.saturating_sub-between.ensures)

@@ -40,11 +40,11 @@ pub returns : goal.returns
 returns c = let r = c.requires in
     let a = c.args in
     let plan_size = 1 + length c.text_of-plan.result.now in
-    let g = a.call.context.generation in
-    let p = a.call.context.position in
-    done r (reserved r.state (permit_made r)) (DeleteReserved (permit_made r)) a.call.image.now _
-    (First (tables_place a.call.contents) c.saturating_sub.result ∷ Second (35 + plan_size) c.saturating_sub-size.result ∷ Second 27 plan_size ∷ Number g 8 ∷ Number p.term 8 ∷ Number p.index 8 ∷ First c.locate-place.result.end (length a.call.image.now) ∷ [])
-    a.call.image.now (PublicationOutcome.DeleteReserved (permit_told r))
+    let g = a.call.now.context.generation in
+    let p = a.call.now.context.position in
+    done r (reserved r.state (permit_made r)) (DeleteReserved (permit_made r)) a.call.now.image.now _
+    (First (tables_place a.call.now.contents.now) c.saturating_sub.result ∷ Second (35 + plan_size) c.saturating_sub-size.result ∷ Second 27 plan_size ∷ Number g 8 ∷ Number p.term 8 ∷ Number p.index 8 ∷ First c.locate-place.result.end (length a.call.now.image.now) ∷ [])
+    a.call.now.image.now (PublicationOutcome.DeleteReserved (permit_told r))
     (reserve-taken r _ _ c.text_of-key.ensures c.locate-place.ensures _ c.in_ok-reserve_refusal.ensures refl)
     (reserve-shows r _ c.text_of-plan.ensures _ c.saturating_sub-size.ensures _ _ c.text_of-key.ensures c.locate-place.ensures _ c.after_insert-after.ensures _ c.revised-d.ensures)
     (reserve-tables r _ c.text_of-plan.ensures _ c.saturating_sub-size.ensures _ _ c.text_of-key.ensures c.locate-place.ensures _ c.saturating_sub.ensures)

@@ -14,18 +14,18 @@ use Rattle.deletion.proofs.retire_delete.Goals as goal
 
 pub returns-in_err-retire_refusal : goal.returns-in_err-retire_refusal
 returns-in_err-retire_refusal c = let r = c.requires in
-    refused_exit r _ c.from_residual.ensures.1 (retire-refused r _ _ c.text_of-key.ensures c.locate-place.ensures _ _ _ c.row.ensures c.clip-shown.ensures c.text_of-plan.ensures _ c.in_err-retire_refusal.ensures (number-nonzero _))
+    refused_exit r _ c.from_residual.ensures.1 (retire-refused r _ _ c.text_of-key.ensures c.locate-place.ensures _ c.row.ensures _ c.in_err-retire_refusal.ensures (number-nonzero _))
 
-pub emit-requires : goal.emit-requires
-emit-requires c = (retire-small c.requires _ _ c.text_of-key.ensures c.locate-place.ensures _ c.after_remove-after.ensures _ c.revised-d.ensures, tt)
+pub emit_applied-requires : goal.emit_applied-requires
+emit_applied-requires c = retire-small c.requires _ _ c.text_of-key.ensures c.locate-place.ensures _ c.after_remove-after.ensures _ c.revised-d.ensures
 
 pub returns : goal.returns
 returns c = let r = c.requires in
     let a = c.args in
-    done r (retired r.state (text_of a.call.request.now a.a.key)) Applied a.call.image.now _
-    (First (tables_place a.call.contents) c.saturating_sub.result ∷ First c.locate-place.result.end (length a.call.image.now) ∷ []) a.call.image.now PublicationOutcome.Applied
-    (retire-taken r _ _ c.text_of-key.ensures c.locate-place.ensures _ _ _ c.row.ensures c.clip-shown.ensures c.text_of-plan.ensures _ c.in_ok-retire_refusal.ensures refl)
+    done r (retired r.state (text_of a.call.now.request.now a.a.now.key)) Applied a.call.now.image.now _
+    (First (tables_place a.call.now.contents.now) c.saturating_sub.result ∷ First c.locate-place.result.end (length a.call.now.image.now) ∷ []) a.call.now.image.now PublicationOutcome.Applied
+    (retire-taken r _ _ c.text_of-key.ensures c.locate-place.ensures _ c.row.ensures _ c.in_ok-retire_refusal.ensures refl)
     (retire-shows r _ _ c.text_of-key.ensures c.locate-place.ensures _ c.after_remove-after.ensures _ c.revised-d.ensures)
     (retire-tables r _ _ c.text_of-key.ensures c.locate-place.ensures _ c.saturating_sub.ensures)
     refl
-    c.emit.ensures
+    c.emit_applied.ensures

@@ -24,8 +24,8 @@ overflow_add-bytes-2 c = omega (arith, (prepare-room c.requires _ c.text_of-id.e
 pub after_insert-after-requires : goal.after_insert-after-requires
 after_insert-after-requires c = prepare-room c.requires _ c.text_of-id.ensures _ c.locate-p.ensures _ c.saturating_sub.ensures
 
-pub emit-requires : goal.emit-requires
-emit-requires c = (prepare-small c.requires _ c.text_of-id.ensures _ c.locate-p.ensures _ c.saturating_sub.ensures _ c.after_insert-after.ensures _ c.raised-d.ensures, tt)
+pub emit_applied-requires : goal.emit_applied-requires
+emit_applied-requires c = prepare-small c.requires _ c.text_of-id.ensures _ c.locate-p.ensures _ c.saturating_sub.ensures _ c.after_insert-after.ensures _ c.raised-d.ensures
 
 pub returns : goal.returns
 returns c = let r = c.requires in
@@ -34,11 +34,11 @@ returns c = let r = c.requires in
     let place = c.locate-p in
     let ahead = c.saturating_sub-2 in
     let first = length id.result.now + 1 in
-    done r (intent_prepared r.state (text_of a.call.request.now a.a.publication_id) (record_of r)) Applied a.call.image.now _
-    (First (tables_place a.call.contents) ahead.result ∷ Second 27 first ∷ Number a.call.context.generation 8 ∷ Second (27 + first) (length a.call.request.now) ∷ First place.result.end (length a.call.image.now) ∷ [])
-    a.call.image.now PublicationOutcome.Applied
+    done r (intent_prepared r.state (text_of a.call.now.request.now a.a.now.publication_id) (record_of r)) Applied a.call.now.image.now _
+    (First (tables_place a.call.now.contents.now) ahead.result ∷ Second 27 first ∷ Number a.call.now.context.generation 8 ∷ Second (27 + first) (length a.call.now.request.now) ∷ First place.result.end (length a.call.now.image.now) ∷ [])
+    a.call.now.image.now PublicationOutcome.Applied
     (prepare-taken r _ id.ensures _ place.ensures _ c.in_ok-prepare_refusal.ensures refl)
     (prepare-shows r _ id.ensures _ place.ensures _ c.saturating_sub.ensures _ c.after_insert-after.ensures _ c.raised-d.ensures)
     (prepare-tables r _ id.ensures _ place.ensures _ ahead.ensures)
     refl
-    c.emit.ensures
+    c.emit_applied.ensures

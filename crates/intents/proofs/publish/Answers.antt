@@ -28,8 +28,8 @@ overflow_add-m-3 c = let b = name_bounds c.requires _ c.text_of-id.ensures _ c.t
 pub returns-in_err-publish_refusal : goal.returns-in_err-publish_refusal
 returns-in_err-publish_refusal c = let r = c.requires in
     refused_exit r _ c.from_residual.ensures.1
-    (publish-refused r _ c.text_of-id.ensures _ c.text_of-root.ensures _ c.option_at-prior.ensures _ c.locate-p.ensures _ c.locate-o.ensures _ _ _ _ _
-    c.row-stored.ensures c.clip-rest.ensures c.clip-shown.ensures c.text_of-key.ensures c.row.ensures _ c.in_err-publish_refusal.ensures (number-nonzero _))
+    (publish-refused r _ c.text_of-id.ensures _ c.text_of-root.ensures _ c.option_at-prior.ensures _ c.locate-p.ensures _ c.locate-o.ensures _ _ _ _
+    c.row-stored.ensures c.clip-rest.ensures c.clip-shown.ensures c.row.ensures _ c.in_err-publish_refusal.ensures (number-nonzero _))
 
 pub overflow_add-bytes : goal.overflow_add-bytes
 overflow_add-bytes c = omega (arith, (publish-room c.requires _ c.text_of-id.ensures _ c.text_of-root.ensures _ c.option_at-prior.ensures _ c.locate-p.ensures _ c.locate-o.ensures _ c.saturating_sub.ensures).2)
@@ -37,8 +37,8 @@ overflow_add-bytes c = omega (arith, (publish-room c.requires _ c.text_of-id.ens
 pub after_insert-more-requires : goal.after_insert-more-requires
 after_insert-more-requires c = publish-room c.requires _ c.text_of-id.ensures _ c.text_of-root.ensures _ c.option_at-prior.ensures _ c.locate-p.ensures _ c.locate-o.ensures _ c.saturating_sub.ensures
 
-pub emit-requires : goal.emit-requires
-emit-requires c = (publish-small c.requires _ c.text_of-id.ensures _ c.text_of-root.ensures _ c.option_at-prior.ensures _ c.locate-p.ensures _ c.locate-o.ensures _ c.saturating_sub.ensures _ _ c.after_remove-fewer.ensures c.after_insert-more.ensures _ c.raised-d.ensures, tt)
+pub emit_applied-requires : goal.emit_applied-requires
+emit_applied-requires c = publish-small c.requires _ c.text_of-id.ensures _ c.text_of-root.ensures _ c.option_at-prior.ensures _ c.locate-p.ensures _ c.locate-o.ensures _ c.saturating_sub.ensures _ _ c.after_remove-fewer.ensures c.after_insert-more.ensures _ c.raised-d.ensures
 
 pub returns : goal.returns
 returns c = let r = c.requires in
@@ -53,12 +53,12 @@ returns c = let r = c.requires in
     let first = length id.result.now + 1 in
     let second = length root.result.now + 1 in
     let m = 27 + first + second + length prior.result.now in
-    done r (root_published r.state (text_of a.call.request.now a.a.publication_id) (text_of a.call.request.now a.a.destination_root) (reference_of a.call.request.now a.a.manifest)) Applied a.call.image.now _
-    (First (tables_place a.call.contents) ahead.result ∷ First p.result.end between.result ∷ Second (27 + first) second ∷ Second m (length a.call.request.now) ∷ First o.result.end (length a.call.image.now) ∷ [])
-    a.call.image.now PublicationOutcome.Applied
-    (publish-taken r _ id.ensures _ root.ensures _ prior.ensures _ p.ensures _ o.ensures _ _ _ _ _
-    c.row-stored.ensures c.clip-rest.ensures c.clip-shown.ensures c.text_of-key.ensures c.row.ensures _ c.in_ok-publish_refusal.ensures refl)
+    done r (root_published r.state (text_of a.call.now.request.now a.a.now.publication_id) (text_of a.call.now.request.now a.a.now.destination_root) (reference_of a.call.now.request.now a.a.now.manifest)) Applied a.call.now.image.now _
+    (First (tables_place a.call.now.contents.now) ahead.result ∷ First p.result.end between.result ∷ Second (27 + first) second ∷ Second m (length a.call.now.request.now) ∷ First o.result.end (length a.call.now.image.now) ∷ [])
+    a.call.now.image.now PublicationOutcome.Applied
+    (publish-taken r _ id.ensures _ root.ensures _ prior.ensures _ p.ensures _ o.ensures _ _ _ _
+    c.row-stored.ensures c.clip-rest.ensures c.clip-shown.ensures c.row.ensures _ c.in_ok-publish_refusal.ensures refl)
     (publish-shows r _ id.ensures _ root.ensures _ prior.ensures _ p.ensures _ o.ensures _ c.saturating_sub.ensures _ _ c.after_remove-fewer.ensures c.after_insert-more.ensures _ c.raised-d.ensures)
     (publish-tables r _ id.ensures _ root.ensures _ prior.ensures _ p.ensures _ o.ensures _ _ ahead.ensures between.ensures)
     refl
-    c.emit.ensures
+    c.emit_applied.ensures

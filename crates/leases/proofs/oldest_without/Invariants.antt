@@ -1,9 +1,7 @@
-use Rattle.std.proofs.Common.{◌≡◌, drop}
-use Rattle.fields.specs.Codes.{codes}
-use Rattle.image.specs.Shapes.{lease}
-use Rattle.tables.specs.Seek.{rows_at, rows_left}
+use Rattle.std.proofs.Common.{◌≡◌}
+use Rattle.tables.specs.Seek.{rows_left}
 use Rattle.leases.specs.Oldest.{named, oldest_kept}
 use Rattle.leases.proofs.oldest_without.Given as goal
 
 abbrev pub invariant-loop-lease : goal.invariant-loop-lease
-invariant-loop-lease l = oldest_kept (named l.id) l.floor (rows_at (codes lease) l.n (drop l.at l.s)) ≡ oldest_kept (named l.id) l.oldest (rows_left l.lease-iterator)
+invariant-loop-lease l = oldest_kept (named l.id) l.floor (rows_left l.leases) ≡ oldest_kept (named l.id) l.oldest (rows_left l.lease-iterator)

@@ -1,4 +1,5 @@
 use Rattle.parts.specs.declared.Part.TheVariants.{First, Second, Number}
+use mathlib.Core.Path.{ap, ◌∙◌}
 use mathlib.Core.List.{[], ◌∷◌}
 use native.Mathlib.Omega.{arith}
 use lib.ListN.{length}
@@ -7,8 +8,10 @@ use Rattle.image.specs.TableLaws.{tables_place}
 use Rattle.machine.specs.Actions.{LeaseAcquired}
 use Rattle.machine.specs.Next.{acquired}
 use Rattle.requests.specs.Meaning.{text_of}
+use Rattle.next.specs.Rows.{rows_as}
 use Rattle.next.specs.Call.{done}
 use Rattle.next.specs.declared.PublicationOutcome.{PublicationOutcome}
+use Rattle.floor.specs.Floors.{oldest_at}
 use Rattle.edits.specs.PlaceLaws.{table_bounds}
 use Rattle.leases.specs.Acquire.{new, end_low, runs_low, acquire-small, acquire-shows, acquire-tables, told, acquire-fits, acquire-told}
 use Rattle.leases.proofs.put_lease.Goals as goal
@@ -22,8 +25,8 @@ overflow_add-first c = omega (arith, runs_low c.requires c.saturating_sub-start.
 pub overflow_add-first-2 : goal.overflow_add-first-2
 overflow_add-first-2 c = omega (arith, runs_low c.requires c.saturating_sub-start.ensures c.saturating_sub-rest.ensures c.saturating_sub-first.ensures c.saturating_sub-second.ensures)
 
-pub after_insert-table-requires : goal.after_insert-table-requires
-after_insert-table-requires c = let low = table_bounds c.requires.ready.holds leases in
+pub after_insert-requires : goal.after_insert-requires
+after_insert-requires c = let low = table_bounds c.requires.ready.holds leases in
     let short = c.requires.ready.short in
     (omega (arith, low.0), omega (arith, low.1), omega (arith, runs_low c.requires c.saturating_sub-start.ensures c.saturating_sub-rest.ensures c.saturating_sub-first.ensures c.saturating_sub-second.ensures))
 
@@ -33,7 +36,7 @@ emit-requires c = let w = c.requires in
     let rest = c.saturating_sub-rest.ensures in
     let first = c.saturating_sub-first.ensures in
     let second = c.saturating_sub-second.ensures in
-    (acquire-small w start rest first second c.with_leases-d.ensures c.after_insert-table.ensures, acquire-fits w start rest first second c.up-epoch.ensures)
+    (acquire-small w start rest first second c.after_insert.ensures, acquire-fits w start rest first second c.up-epoch.ensures)
 
 pub returns : goal.returns
 returns c = let w = c.requires in
@@ -44,11 +47,11 @@ returns c = let w = c.requires in
     let second = c.saturating_sub-second in
     let before = c.saturating_sub in
     let epoch = c.up-epoch in
-    done w.ready (acquired w.ready.state (text_of a.call.request.now a.a.lease_id) (new w.ready) a.call.faults.omit_lease_root_epoch) (LeaseAcquired (new w.ready)) a.call.image.now _
-    (First (tables_place a.call.contents) before.result ∷ Second start.result first.result ∷ Number epoch.result 8 ∷ Second rest.result second.result ∷ Number a.call.context.generation 8 ∷ Number a.call.context.position.term 8 ∷ Number a.call.context.position.index 8 ∷ First a.p.end (length a.call.image.now) ∷ [])
-    a.call.image.now (PublicationOutcome.LeaseAcquired (told w start.ensures rest.ensures first.ensures second.ensures epoch.ensures))
+    done w.ready (acquired w.ready.state (text_of a.call.now.request.now a.a.now.lease_id) (new w.ready) a.call.now.faults.omit_lease_root_epoch) (LeaseAcquired (new w.ready)) a.call.now.image.now _
+    (First (tables_place a.call.now.contents.now) before.result ∷ Second start.result first.result ∷ Number epoch.result 8 ∷ Second rest.result second.result ∷ Number a.call.now.context.generation 8 ∷ Number a.call.now.context.position.term 8 ∷ Number a.call.now.context.position.index 8 ∷ First a.p.end (length a.call.now.image.now) ∷ [])
+    a.call.now.image.now (PublicationOutcome.LeaseAcquired (told w start.ensures rest.ensures first.ensures second.ensures epoch.ensures))
     w.taken
-    (acquire-shows w start.ensures rest.ensures first.ensures second.ensures c.with_leases-d.ensures c.after_insert-table.ensures epoch.ensures c.up_unless-root_epoch.ensures c.policy_for-policy.ensures c.oldest.ensures c.older-candidate.ensures c.readable_for-readable.ensures)
+    (acquire-shows w start.ensures rest.ensures first.ensures second.ensures c.after_insert.ensures epoch.ensures c.up_unless.ensures c.policy_for-policy.ensures (c.oldest.ensures ∙ ap (oldest_at _) (rows_as c.rows.ensures)) c.min-candidate.ensures c.readable_for.ensures)
     (acquire-tables w start.ensures rest.ensures first.ensures second.ensures epoch.ensures _ before.ensures)
     (acquire-told w start.ensures rest.ensures first.ensures second.ensures epoch.ensures)
     c.emit.ensures

@@ -28,8 +28,8 @@ overflow_add-bytes c = omega (arith, (pin-room c.requires _ c.text_of-id.ensures
 pub after_insert-after-requires : goal.after_insert-after-requires
 after_insert-after-requires c = pin-room c.requires _ c.text_of-id.ensures _ c.locate-p.ensures _ c.option_at-expected.ensures _ c.saturating_sub.ensures
 
-pub emit-requires : goal.emit-requires
-emit-requires c = (pin-small c.requires _ c.text_of-id.ensures _ c.locate-p.ensures _ c.option_at-expected.ensures _ c.saturating_sub.ensures _ c.after_insert-after.ensures _ c.raised-d.ensures, tt)
+pub emit_applied-requires : goal.emit_applied-requires
+emit_applied-requires c = pin-small c.requires _ c.text_of-id.ensures _ c.locate-p.ensures _ c.option_at-expected.ensures _ c.saturating_sub.ensures _ c.after_insert-after.ensures _ c.raised-d.ensures
 
 pub returns : goal.returns
 returns c = let r = c.requires in
@@ -40,10 +40,10 @@ returns c = let r = c.requires in
     let ahead = c.saturating_sub-2 in
     let first = length id.result.now + 1 in
     let m = 27 + first + length expected.result.now in
-    done r (pinned r.state (text_of a.call.request.now a.a.pin_id) (reference_of a.call.request.now a.a.manifest)) Applied a.call.image.now _
-    (First (tables_place a.call.contents) ahead.result ∷ Second 27 first ∷ Second m (length a.call.request.now) ∷ First place.result.end (length a.call.image.now) ∷ []) a.call.image.now PublicationOutcome.Applied
+    done r (pinned r.state (text_of a.call.now.request.now a.a.now.pin_id) (reference_of a.call.now.request.now a.a.now.manifest)) Applied a.call.now.image.now _
+    (First (tables_place a.call.now.contents.now) ahead.result ∷ Second 27 first ∷ Second m (length a.call.now.request.now) ∷ First place.result.end (length a.call.now.image.now) ∷ []) a.call.now.image.now PublicationOutcome.Applied
     (pin-taken r _ id.ensures _ place.ensures _ expected.ensures _ c.row.ensures _ c.in_ok-pin_refusal.ensures refl)
     (pin-shows r _ id.ensures _ place.ensures _ expected.ensures _ c.saturating_sub.ensures _ c.after_insert-after.ensures _ c.raised-d.ensures)
     (pin-tables r _ id.ensures _ place.ensures _ expected.ensures _ ahead.ensures)
     refl
-    c.emit.ensures
+    c.emit_applied.ensures

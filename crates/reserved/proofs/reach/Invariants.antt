@@ -1,11 +1,13 @@
-use Rattle.std.proofs.Common.{◌≡◌, ◌-◌, drop}
-use Rattle.reserved.specs.Located.{located_in}
+use Rattle.std.proofs.Common.{◌≡◌}
+use Rattle.reserved.specs.Located.{located_of}
 use Rattle.reserved.specs.Passed.{Passed}
 use Rattle.reserved.proofs.reach.Given as goal
 
-abbrev pub invariant-loop : goal.invariant-loop
-invariant-loop l = record {
-  left : l.to.rows ≡ l.fn.from.rows - l.counter;
-  same : located_in l.codes l.fn.from.rows (drop l.fn.from.at l.s) l.id ≡ located_in l.codes l.to.rows (drop l.to.at l.s) l.id;
-  passed : Passed l.codes l.fn.from.rows (drop l.fn.from.at l.s) l.id l.to.rows (drop l.to.at l.s);
+abbrev pub invariant-loop-to : goal.invariant-loop-to
+invariant-loop-to l = record {
+  same : located_of l.rows l.id ≡ located_of l.to l.id;
+  passed : Passed l.rows l.id l.to;
 }
+
+abbrev pub decreases-loop-to : goal.decreases-loop-to
+decreases-loop-to l = l.to.left

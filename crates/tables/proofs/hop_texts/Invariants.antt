@@ -1,6 +1,6 @@
-use Rattle.std.proofs.Common.{◌≡◌, ◌≤◌, ◌-◌, length, drop}
+use Rattle.std.proofs.Common.{◌≡◌, ◌-◌, drop}
 use Rattle.fields.specs.Codes.{hops}
 use Rattle.tables.proofs.hop_texts.Given as goal
 
 abbrev pub invariant-loop : goal.invariant-loop
-invariant-loop l = (l.p ≤ length l.s) × (hops l.n (drop l.at l.s) ≡ hops (l.n - l.counter) (drop l.p l.s))
+invariant-loop l = hops l.n (drop l.at l.s) ≡ hops (l.n - l.counter) (drop l.p l.s)
