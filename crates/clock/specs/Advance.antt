@@ -1,5 +1,5 @@
 -- AdvanceLeaseClock: its answers, and the contents that show its next state.
-use Rattle.std.specs.Prelude.{ℕ, ◌+◌, ◌-◌, ◌≤◌, Bool, cond, List, [], ◌∷◌, ◌++◌, map, ◌≡◌, eqb, leb, length, drop}
+use Rattle.std.specs.Prelude.{ℕ, ◌+◌, ◌-◌, ◌≤◌, Bool, true, false, cond, ◌||◌, List, [], ◌∷◌, ◌++◌, map, ◌≡◌, eqb, leb, length, drop}
 use Rattle.std.proofs.Common.{arith, append_assoc, sym, ◌∙◌, subst, length-append, ne_eqb}
 use Rattle.std.proofs.Math.Bool.{not}
 use Rattle.std.proofs.Math.Path.{refl, ap}
@@ -71,6 +71,17 @@ moved-is : (ids : List Text) (n : ℕ) → cond (eqb (length ids) 0) n (up n) �
 unfolding moved
 moved-is [] n = refl
 moved-is (id ∷ ids) n = simp (ne_eqb (length (id ∷ ids)) 0 (λ z. omega arith))
+
+cond_either : (a b : Bool) (n m : ℕ) → cond (a || b) n m ≡ cond a n (cond b n m)
+cond_either true b n m = refl
+cond_either false b n m = refl
+
+-- the value of `a || b`, as the code comes to it
+pub either-first : {a k : Bool} (b : Bool) → a ≡ true → k ≡ a → k ≡ (a || b)
+either-first b e h = h ∙ e ∙ sym (ap (λ (t : Bool). t || b) e)
+
+pub either_second : {a k b : Bool} → a ≡ false → k ≡ b → k ≡ (a || b)
+either_second {b = b} e h = h ∙ sym (ap (λ (t : Bool). t || b) e)
 
 without-count : (p : SnapshotLeaseToken → Bool) (m : Map SnapshotLeaseToken) → length (without p m) + length (entries_where p m) ≡ length m
 unfolding without select
@@ -206,10 +217,10 @@ module _ {x : List ℕ} {c : Contents} {q : List ℕ} {a : ContextAt} {f : Fault
 
       pub advance-shows : policy ≡ policy_for c.scalars.retention_window c.scalars.observed_commit_frontier c.scalars.policy_floor
           → epoch ≡ cond (eqb t.ended 0) c.scalars.lease_epoch (up c.scalars.lease_epoch)
-          → root-epoch ≡ cond f.omit_lease_root_epoch c.scalars.root_intent_epoch (cond (eqb t.ended 0) c.scalars.root_intent_epoch (up c.scalars.root_intent_epoch))
+          → {still : Bool} → root-epoch ≡ cond still c.scalars.root_intent_epoch (up c.scalars.root_intent_epoch) → still ≡ (f.omit_lease_root_epoch || eqb t.ended 0)
           → readable ≡ readable_for_window c.scalars.retention_window t.oldest c.scalars.minimum_readable_version
           → Shows x (leased c a root-epoch policy readable tick epoch (table t.size count)) (set_revision (position_of a.position) (clock_advanced s tick f.omit_lease_root_epoch))
-      advance-shows p ee er r =
+      advance-shows p ee er st r =
           let h = ready.holds in
           let w = ready.formed in
           let ids : List Text = expired s tick in
@@ -217,7 +228,7 @@ module _ {x : List ℕ} {c : Contents} {q : List ℕ} {a : ContextAt} {f : Fault
           let ended : t.ended ≡ length ids = ap (λ (u : Tally). u.ended) k ∙ count-here h w tick in
           recomputed h a left (table t.size count)
           (tables_with h leases left _ (ap (λ (u : Tally). u.size) k ∙ ap length (kept_here h w tick)) (n ∙ (λ i. count-is h leases i - ended i) ∙ sym (left-count h w tick)))
-          (er ∙ (λ i. cond f.omit_lease_root_epoch (number_is h 2 i) ((ap (λ (j : ℕ). cond (eqb j 0) c.scalars.root_intent_epoch (up c.scalars.root_intent_epoch)) ended ∙ moved-is ids c.scalars.root_intent_epoch ∙ ap (moved ids) (number_is h 2)) i)))
+          (er ∙ ap (λ (b : Bool). cond b c.scalars.root_intent_epoch (up c.scalars.root_intent_epoch)) st ∙ cond_either f.omit_lease_root_epoch (eqb t.ended 0) c.scalars.root_intent_epoch (up c.scalars.root_intent_epoch) ∙ (λ i. cond f.omit_lease_root_epoch (number_is h 2 i) ((ap (λ (j : ℕ). cond (eqb j 0) c.scalars.root_intent_epoch (up c.scalars.root_intent_epoch)) ended ∙ moved-is ids c.scalars.root_intent_epoch ∙ ap (moved ids) (number_is h 2)) i)))
           refl
           (ee ∙ ap (λ (j : ℕ). cond (eqb j 0) c.scalars.lease_epoch (up c.scalars.lease_epoch)) ended ∙ moved-is ids c.scalars.lease_epoch ∙ ap (moved ids) (number_is h 9))
           p (ap (λ (u : Tally). u.oldest) k ∙ oldest-left h w tick policy) r

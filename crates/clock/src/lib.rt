@@ -1,12 +1,11 @@
 // The lease clock: every lease goes whose deadline is reached.
 #![tactic(auto)]
 
-ghost use Rattle.std.specs.Prelude.{cond, ◌≡◌, ◌+◌, ◌≤◌, ◌<◌, eqb, length};
+ghost use Rattle.std.specs.Prelude.{cond, ◌≡◌, ◌+◌, ◌≤◌, ◌<◌, length};
 ghost use Rattle.refusals.specs.Numbers.{told};
 ghost use Rattle.parts.specs.Gather.{Filled};
 ghost use Rattle.image.specs.Layout.{leases};
 ghost use Rattle.image.specs.TableLaws.{table_in};
-ghost use Rattle.machine.specs.Next.{up};
 ghost use Rattle.machine.specs.Tests.{first_of};
 ghost use Rattle.requests.specs.declared.PublicationAction.{PublicationAction};
 ghost use Rattle.next.specs.Added.{Added};
@@ -106,19 +105,6 @@ fn body_parts(call: &Call<'_>, tick: u64) -> [Part; 66]
     parts
 }
 
-// An epoch moves only if a lease ended.
-fn up_if(ended: usize, n: u64) -> u64
-    ensures { result ≡ cond (eqb ended 0) n (up n) }
-{
-    if ended == 0 { n } else { next::up(n) }
-}
-
-fn root_after(omit: bool, ended: usize, n: u64) -> u64
-    ensures { result ≡ cond omit n (cond (eqb ended 0) n (up n)) }
-{
-    if omit { n } else { up_if(ended, n) }
-}
-
 #[tactic(auto, unfolding(machine::specs::Tests::first_of))]
 fn advance_refusal(a: &AdvanceLeaseClock, clock: u64) -> Result<(), Refusal>
     ensures { told result ≡ first_of (advance_tests a.now clock) }
@@ -146,6 +132,8 @@ pub fn advance_lease_clock(
     let w = n.retention_window;
     let policy = floor::policy_for(w, n.observed_commit_frontier, n.policy_floor);
     let t = count_rows(call.rows(image::LEASES), a.next_tick, policy);
+    // an epoch moves only if a lease ended
+    let none_ended = t.ended == 0;
     let mut tables = call.contents.tables;
     let leases = tables[image::LEASES];
     tables[image::LEASES] = Table {
@@ -157,15 +145,14 @@ pub fn advance_lease_clock(
         scalars: Scalars {
             term: call.context.position.term,
             index: call.context.position.index,
-            root_intent_epoch: root_after(
-                call.faults.omit_lease_root_epoch,
-                t.ended,
+            root_intent_epoch: next::up_unless(
+                call.faults.omit_lease_root_epoch || none_ended,
                 n.root_intent_epoch,
             ),
             policy_floor: policy,
             minimum_readable_version: floor::readable_for(w, t.oldest, n.minimum_readable_version),
             lease_clock_tick: a.next_tick,
-            lease_epoch: up_if(t.ended, n.lease_epoch),
+            lease_epoch: next::up_unless(none_ended, n.lease_epoch),
             ..n
         },
         tables,

@@ -38,8 +38,7 @@ use Rattle.next.specs.Asked.{fields_here}
 use Rattle.next.specs.Contents.{raised}
 use Rattle.next.specs.Kept.{with_scalars, small-held, small-scalars}
 use Rattle.next.specs.ShownLaws.{shows-raised}
-use Rattle.next.specs.Rows.{RowsOf, table_of}
-use Rattle.next.specs.declared.Call.{Call}
+use Rattle.image.specs.Rows.{RowsOf, table_of}
 use Rattle.tables.specs.declared.TableRows.{TableRows}
 use Rattle.reserved.specs.Located.{located_in, located_of, has_row}
 use Rattle.collection.specs.After.{rooted}
@@ -50,8 +49,8 @@ no-entries : {A : Type 0} (l : List A) → eqb (length l) 0 ≡ is_empty l
 no-entries [] = refl
 no-entries (v ∷ l) = ne_eqb (suc (length l)) 0 (λ z. absurd (omega arith))
 
--- whether one of the roots that a call gives has the id
-pub root_located : {call : Call} {r : TableRows} → RowsOf call 1 r → (id : Text) → located_of r id ≡ located_in (codes (row_format roots)) (table_of call 1).count (drop (table_of call 1).at call.image.now) id
+-- whether one of the roots has the id
+pub root_located : {x : List ℕ} {c : Contents} {r : TableRows} → RowsOf x c 1 r → (id : Text) → located_of r id ≡ located_in (codes (row_format roots)) (table_of c 1).count (drop (table_of c 1).at x) id
 root_located h id = rw (h.codes, h.bytes, h.at, h.left)
 
 -- the root is the last field of the request

@@ -20,11 +20,7 @@ use requests::{CollectionJobToken, ConfigureCollectionRoot};
 pub fn same_maybe(a: &[u8], t: Option<TextAt>, b: &[u8], u: Option<TextAt>) -> bool
     ensures { result ≡ same_option same (maybe_text_of a.now t) (maybe_text_of b.now u) }
 {
-    match (t, u) {
-        (Some(v), Some(w)) => text::same(requests::text_of(a, v), requests::text_of(b, w)),
-        (None, None) => true,
-        _ => false,
-    }
+    t.map(|v| requests::text_of(a, v)) == u.map(|w| requests::text_of(b, w))
 }
 
 // The first test that refuses another collection root.

@@ -190,7 +190,7 @@ module _ {x q : List ℕ} {c : Contents} {y : ContextAt} {g : FaultsAt} {a : Pre
                 then ap (leb a.frozen_floor) collected
                 then ap (λ (n : ℕ). ltb n a.frozen_floor) (number_is pre.holds 6)
                 then ap (λ (b : Bool). not g.ignore_collection_input_root && not b) (compared ∙ ap (input_stands row key q) at
-                ∙ input-stands pre.holds pre.formed (located_as roots key-is spotted) row row_is key key-is q (length asked + 36) manifest _ manifest-here (omega (arith, long, rest-long)) pre.within.1.1.1.0)
+                ∙ input-stands pre.holds pre.formed (located_as roots key-is spotted) row row_is key key-is q (length asked + 36) manifest _ manifest-here pre.within.1.1.1.0)
                 then tt
 
             module _ (n : ℕ) (told : n ≡ first_of tests) where

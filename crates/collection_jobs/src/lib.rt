@@ -1,7 +1,7 @@
 // Collection jobs: prepared.
 #![tactic(auto)]
 
-ghost use Rattle.std.specs.Prelude.{◌≡◌, not, ◌&&◌, length, eqb, ◌≤◌};
+ghost use Rattle.std.specs.Prelude.{◌≡◌, not, ◌&&◌, length, ◌≤◌};
 ghost use Rattle.refusals.specs.Numbers.{told};
 ghost use Rattle.machine.specs.Tests.{first_of};
 ghost use Rattle.state.specs.Maps.{any};
@@ -45,8 +45,7 @@ pub fn input_stands(row: &[u8], root: &[u8], request: &[u8], at: usize) -> bool
     requires { length root.now ≤ 64 }
     ensures { result ≡ input_stands row.now root.now request.now at }
 {
-    let end = tables::skip_record(&image::REFERENCE, request, at);
-    let shown = parts::clip(request, at, end.saturating_sub(at));
+    let shown = reader::row_at(&image::REFERENCE, request, at);
     edits::row_holds(row, root.len() + 1, shown)
 }
 
@@ -55,13 +54,6 @@ pub fn other_input(ignore: bool, stands: bool) -> bool
     ensures { result ≡ not ignore && not stands }
 {
     !ignore && !stands
-}
-
-// Two numbers differ, and a fault flag does not say to pass over it.
-fn differ_unless(ignore: bool, a: u64, b: u64) -> bool
-    ensures { result ≡ not ignore && not (eqb a b) }
-{
-    !ignore && a != b
 }
 
 // The first test of the request itself that refuses a job.
@@ -102,7 +94,7 @@ pub fn stale(call: &Call<'_>, range: u64, root: TextAt, collected: u64) -> Resul
     ensures { told result ≡ first_of (stale_tests call.now.image.now call.now.contents.now call.now.request.now call.now.faults.ignore_collection_range_epoch range root collected) }
 {
     let n = call.contents.scalars;
-    if differ_unless(
+    if next::differ_unless(
         call.faults.ignore_collection_range_epoch,
         range,
         n.range_map_epoch,

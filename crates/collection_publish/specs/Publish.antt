@@ -1,6 +1,6 @@
 -- PublishCollection: its answers, the contents that show its next state, and what is written.
 use Rattle.parts.specs.declared.Part.TheVariants.{First, Second}
-use Rattle.std.specs.Prelude.{ℕ, ◌+◌, ◌-◌, ◌≤◌, Bool, false, cond, ◌&&◌, ◌≡◌, ltb, eqb, take, set, Some}
+use Rattle.std.specs.Prelude.{ℕ, ◌+◌, ◌-◌, ◌≤◌, Bool, false, cond, ◌&&◌, ◌≡◌, ltb, eqb, set, Some}
 use Rattle.std.proofs.Common.{arith, ◌∙◌, subst, length-drop}
 use Rattle.std.proofs.Math.Bool.{not}
 use mathlib.Core.List.{List, [], ◌∷◌, ◌++◌, append_assoc, append-nil}
@@ -20,6 +20,7 @@ use Rattle.state.specs.Setters.{set_revision, set_roots}
 use Rattle.fields.specs.Format.{◌▹◌, enc, enc_text, all}
 use Rattle.fields.specs.Codes.{codes, skip}
 use Rattle.fields.specs.Walks.{place_of}
+use Rattle.reader.specs.Records.{record_of}
 use Rattle.tables.specs.Seek.{Seen, seek, placed}
 use Rattle.tables.specs.declared.Place.{Place}
 use Rattle.image.specs.Shapes.{u64, key, keys, reference, job, reference_parts, job_parts}
@@ -58,11 +59,12 @@ use Rattle.next.specs.declared.PublicationOutcome.{PublicationOutcome}
 use Rattle.reserved.specs.Located.{reserved-here}
 use Rattle.edits.specs.Changes.{after_insert, after_remove}
 use Rattle.edits.specs.PlaceLaws.{Located, located_as, table_bounds, spot, missing, Held, held, inserted_shown}
+use Rattle.publication.specs.References.{record-to}
 use Rattle.publication.specs.RaisedLaws.{request_bounded}
 use Rattle.collection.specs.After.{collected_to}
 use Rattle.collection.specs.AfterLaws.{shows-collected}
-use Rattle.collection_jobs.specs.Input.{manifest_end, input_stands, manifest-end, manifest-run, input-stands}
-use Rattle.collection_publish.specs.Tests.{same_manifest, token_end, publish_tests}
+use Rattle.collection_jobs.specs.Input.{manifest_end, manifest-end, manifest_at, input_stands, manifest-is, input-stands}
+use Rattle.collection_publish.specs.Tests.{same_manifest, token_in, token_end, publish_tests}
 
 module _ {x q : List ℕ} {c : Contents} {y : ContextAt} {g : FaultsAt} {a : ReceiptAt}
     (pre : Ready x c q (record { context = y; faults = g; action = PublicationAction.PublishCollection a }))
@@ -124,23 +126,14 @@ module _ {x q : List ℕ} {c : Contents} {y : ContextAt} {g : FaultsAt} {a : Rec
     front_fits : length token_front ≤ length token_bytes
     front_fits = omega (arith, ap length token-parts ∙ length-append token_front (enc reference (reference_parts input) ++ (enc_text root ++ token_rest)))
 
-    bytes-long : 1 ≤ length token_bytes
-    bytes-long = omega (arith, front_fits, front_long)
+    token-is : token_in q ≡ token_bytes
+    token-is = ap (record_of (codes job)) here ∙ record-to job (job_parts token) (output_bytes ++ keys_bytes)
 
     token_end_lem : token_end q ≡ 27 + length token_bytes
-    token_end_lem =
-        let k : skip 0 (codes job) (drop 27 q) ≡ output_bytes ++ keys_bytes =
-        ap (skip 0 (codes job)) here ∙ skip-to job (job_parts token) (output_bytes ++ keys_bytes) in
-        ap (λ (l : List ℕ). place_of q l) k ∙ omega (arith, long, bytes-long)
-
-    token-run : take (token_end q - 27) (drop 27 q) ≡ token_bytes
-    token-run = run-to q token_bytes (output_bytes ++ keys_bytes) 27 (token_end q - 27) here (omega (arith, token_end_lem))
+    token_end_lem = ap (λ (l : List ℕ). 27 + length l) token-is
 
     output-here : drop (token_end q) q ≡ output_bytes ++ keys_bytes
     output-here = after_seam q token_bytes (output_bytes ++ keys_bytes) 27 (token_end q) here token_end_lem
-
-    output-low : token_end q ≤ length q
-    output-low = omega (arith, long, token_end_lem, bytes-long)
 
     abbrev after_input : List ℕ
     after_input = enc_text root ++ (token_rest ++ (output_bytes ++ keys_bytes))
@@ -163,7 +156,7 @@ module _ {x q : List ℕ} {c : Contents} {y : ContextAt} {g : FaultsAt} {a : Rec
     manifests : same_manifest q (token_end q) (length id + 60) ≡ reference_eq output input
     unfolding same_manifest
     manifests =
-        (λ i. same_of (manifest-run q (token_end q) output keys_bytes output-here output-low i) (manifest-run q (length id + 60) input after_input input-here input-low i))
+        (λ i. same_of (manifest-is q (token_end q) output keys_bytes output-here i) (manifest-is q (length id + 60) input after_input input-here i))
         ∙ same-reference output input pre.within.1.1.0 pre.within.1.0.1.1.1.1.0
 
     -- the receipt is all of the request's fields
@@ -205,13 +198,13 @@ module _ {x q : List ℕ} {c : Contents} {y : ContextAt} {g : FaultsAt} {a : Rec
             there : eqb (length stored) 0 ≡ false → Held pre.holds pre.formed jobs job-found
             there e = held pre.holds pre.formed jobs job-found (row_some x sought gone Gone-at stored stored_is (eqb-false _ _ e))
 
-            equal : (v : Held pre.holds pre.formed jobs job-found) → same_of stored (take (token_end q - 27) (drop 27 q)) ≡ job_eq v.value token
-            equal v = (λ i. same_of ((stored_is ∙ v.row) i) (token-run i)) ∙ same-job v.value token v.within pre.within.1.0
+            equal : (v : Held pre.holds pre.formed jobs job-found) → same_of stored (token_in q) ≡ job_eq v.value token
+            equal v = (λ i. same_of ((stored_is ∙ v.row) i) (token-is i)) ∙ same-job v.value token v.within pre.within.1.0
 
             stands-is : stands ≡ same_option reference_eq (lookup root s.roots) (Some input)
             stands-is =
                 compared ∙ ap (λ (l : List ℕ). input_stands row root' q (length l + 60)) id-is
-                ∙ input-stands pre.holds pre.formed root-found row row_is root' root_is q (length id + 60) input after_input input-here input-low pre.within.1.0.1.1.1.1.0
+                ∙ input-stands pre.holds pre.formed root-found row row_is root' root_is q (length id + 60) input after_input input-here pre.within.1.0.1.1.1.1.0
 
             tests_agree : Agrees tests rule
             unfolding act publish_collection
@@ -253,13 +246,20 @@ module _ {x q : List ℕ} {c : Contents} {y : ContextAt} {g : FaultsAt} {a : Rec
 
         -- ---- what is written
 
-        module _ (r-at : ℕ) (r-at-is : r-at ≡ manifest_end q (length id' + 60)) (start : ℕ) (start-at : start ≡ token_end q)
-            (stop : ℕ) (stop_is : stop ≡ manifest_end q start) (size : ℕ) (size-told : size ≡ stop - start)
+        module _ (r-at : ℕ) (r-at-is : r-at ≡ manifest_end q (length id' + 60)) (shown : List ℕ) (shown-is : shown ≡ token_in q)
+            (new : List ℕ) (new-is : new ≡ manifest_at q (27 + length shown))
           where
+            abbrev start : ℕ
+            start = 27 + length shown
+
+            abbrev size : ℕ
+            size = length new
+
+            start-at : start ≡ token_end q
+            start-at = ap (λ (l : List ℕ). 27 + length l) shown-is
+
             output-size : size ≡ length output_bytes
-            output-size =
-                let e = manifest-end q (token_end q) output keys_bytes output-here output-low in
-                size-told ∙ (λ i. (stop_is ∙ ap (manifest_end q) start-at) i - start-at i) ∙ omega (arith, e)
+            output-size = ap length (new-is ∙ ap (manifest_at q) start-at ∙ manifest-is q (token_end q) output keys_bytes output-here)
 
             output-run : run q start size ≡ output_bytes
             output-run = run-to q output_bytes keys_bytes start size (ap (λ (n : ℕ). drop n q) start-at ∙ output-here) output-size

@@ -1,11 +1,11 @@
 -- The tests of PublishCollection over the bytes of image and request, with what the code has found by id.
-use Rattle.std.specs.Prelude.{ℕ, ◌+◌, ◌-◌, Bool, not, ◌&&◌, List, [], ◌∷◌, ◌++◌, ◌≡◌, eqb, length, take, drop}
-use Rattle.std.proofs.Common.{sym, ap, ◌∙◌}
+use Rattle.std.specs.Prelude.{ℕ, ◌+◌, Bool, not, ◌&&◌, List, [], ◌∷◌, ◌++◌, ◌≡◌, eqb, length, drop}
+use Rattle.std.proofs.Common.{sym, ◌∙◌}
 use Rattle.text.specs.Same.{same_of}
 use Rattle.state.specs.Maps.{Text}
 use Rattle.state.specs.Records.{valid_receipt}
-use Rattle.fields.specs.Codes.{codes, skip}
-use Rattle.fields.specs.Walks.{place_of}
+use Rattle.fields.specs.Codes.{codes}
+use Rattle.reader.specs.Records.{record_of}
 use Rattle.image.specs.Shapes.{job}
 use Rattle.image.specs.Layout.{reservations}
 use Rattle.image.specs.TableLaws.{table_in}
@@ -16,24 +16,22 @@ use Rattle.requests.specs.declared.AuthorityContext.{AuthorityContext as Context
 use Rattle.requests.specs.declared.PublicationAuthorityFaults.{PublicationAuthorityFaults as FaultsAt}
 use Rattle.requests.specs.declared.CollectionReceipt.{CollectionReceipt as ReceiptAt}
 use Rattle.reserved.specs.Located.{reserved_in}
-use Rattle.collection_jobs.specs.Input.{manifest_end}
+use Rattle.collection_jobs.specs.Input.{manifest_at}
 use Rattle.collection_jobs.specs.Tests.{stale_tests}
 
 unfoldable pub same_manifest : List ℕ → ℕ → ℕ → Bool
-same_manifest q a b = same_of (take (manifest_end q a - a) (drop a q)) (take (manifest_end q b - b) (drop b q))
+same_manifest q a b = same_of (manifest_at q a) (manifest_at q b)
 
 -- the token is the first field; where it ends
+abbrev pub token_in : List ℕ → List ℕ
+token_in q = record_of (codes job) (drop 27 q)
+
 abbrev pub token_end : List ℕ → ℕ
-token_end q = place_of q (skip 0 (codes job) (drop 27 q))
+token_end q = 27 + length (token_in q)
 
--- the token, and whether the manifests are the same, by what was cut out of the request
-pub token-shown : (q : List ℕ) (end n : ℕ) (shown : List ℕ) → end ≡ token_end q → n ≡ end - 27 → shown ≡ take n (drop 27 q) → shown ≡ take (token_end q - 27) (drop 27 q)
-token-shown q end n shown e k h = h ∙ ap (λ (m : ℕ). take m (drop 27 q)) (k ∙ ap (λ (m : ℕ). m - 27) e)
-
-pub manifests_told : (q : List ℕ) (end : ℕ) (id id' : Text) (b : Bool) → end ≡ token_end q → id' ≡ id → b ≡ same_manifest q end (length id' + 60) → same_manifest q (token_end q) (length id + 60) ≡ b
-manifests_told q end id id' b e k h = (λ i. same_manifest q (sym e i) (length (sym k i) + 60)) ∙ sym h
-
-pub ruleset receipt_steps = (token-shown, manifests_told)
+-- whether the manifests are the same, by what was cut out of the request
+pub manifests_told : (q token : List ℕ) (id id' : Text) (b : Bool) → token ≡ token_in q → id' ≡ id → b ≡ same_manifest q (27 + length token) (length id' + 60) → same_manifest q (token_end q) (length id + 60) ≡ b
+manifests_told q token id id' b e k h = (λ i. same_manifest q (27 + length (sym e i)) (length (sym k i) + 60)) ∙ sym h
 
 -- of the receipt by itself and by its job's row
 abbrev pub receipt_tests : List ℕ → ContextAt → ReceiptAt → (stored : List ℕ) → List Refusal
@@ -41,7 +39,7 @@ receipt_tests q y a stored =
     (2 when not (valid_receipt (receipt_of q a)))
     ∷ (2 when same_manifest q (token_end q) (length (text_of q a.token.job_id) + 60))
     ∷ (30 when eqb (length stored) 0)
-    ∷ (35 when not (same_of stored (take (token_end q - 27) (drop 27 q))))
+    ∷ (35 when not (same_of stored (token_in q)))
     ∷ (6 when not (eqb a.token.owner_generation y.generation))
     ∷ []
 

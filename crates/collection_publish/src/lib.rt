@@ -19,16 +19,14 @@ use requests::CollectionReceipt;
 fn same_manifest(request: &[u8], a: usize, b: usize) -> bool
     ensures { result ≡ same_manifest request.now a b }
 {
-    let a_end = tables::skip_record(&image::REFERENCE, request, a);
-    let b_end = tables::skip_record(&image::REFERENCE, request, b);
     text::same(
-        parts::clip(request, a, a_end.saturating_sub(a)),
-        parts::clip(request, b, b_end.saturating_sub(b)),
+        reader::row_at(&image::REFERENCE, request, a),
+        reader::row_at(&image::REFERENCE, request, b),
     )
 }
 
 // The first test of a receipt by itself and by its job that refuses it. No row is stored where the job is not found.
-#[tactic(auto, using(crate::specs::Tests::receipt_steps), unfolding(machine::specs::Tests::first_of))]
+#[tactic(auto, using(crate::specs::Tests::manifests_told), unfolding(machine::specs::Tests::first_of))]
 fn receipt_refusal(call: &Call<'_>, a: &CollectionReceipt, stored: &[u8]) -> Result<(), Refusal>
     requires { length (text_of call.now.request.now a.now.token.job_id) ≤ 64 }
     ensures { told result ≡ first_of (receipt_tests call.now.request.now call.now.context a.now stored.now) }
@@ -38,17 +36,14 @@ fn receipt_refusal(call: &Call<'_>, a: &CollectionReceipt, stored: &[u8]) -> Res
     }
     let id = requests::text_of(call.request, a.token.job_id);
     // the token stands first, and its manifest after id, generation, position and floor
-    let end = tables::skip_record(&image::JOB, call.request, 27);
-    if same_manifest(call.request, end, id.len() + 60) {
+    let token = reader::row_at(&image::JOB, call.request, 27);
+    if same_manifest(call.request, 27 + token.len(), id.len() + 60) {
         return Err(Refusal::InvalidRequest);
     }
     if stored.is_empty() {
         return Err(Refusal::CollectionJobMissing);
     }
-    if !text::same(
-        stored,
-        parts::clip(call.request, 27, end.saturating_sub(27)),
-    ) {
+    if !text::same(stored, token) {
         return Err(Refusal::CollectionReceiptMismatch);
     }
     if a.token.owner_generation != call.context.generation {
@@ -78,14 +73,8 @@ fn publish_refusal(
     if collection_jobs::other_input(call.faults.ignore_collection_input_root, stands) {
         return Err(Refusal::RootCompareFailed);
     }
-    let reservations = call.contents.tables[image::RESERVATIONS];
-    if reserved::is_reserved(
-        false,
-        call.image,
-        reservations,
-        call.request,
-        a.object_keys.at,
-    ) {
+    let reservations = call.rows(image::RESERVATIONS);
+    if reserved::is_reserved(false, reservations, call.request, a.object_keys.at) {
         return Err(Refusal::ObjectDeletionReserved);
     }
     Ok(())
@@ -110,8 +99,9 @@ pub fn publish_collection(
     publish_refusal(call, a, stored, stands)?;
     // the root stands after the token's manifest, and the new manifest after the token
     let root_at = tables::skip_record(&image::REFERENCE, call.request, id.len() + 60);
-    let start = tables::skip_record(&image::JOB, call.request, 27);
-    let size = tables::skip_record(&image::REFERENCE, call.request, start).saturating_sub(start);
+    let token = reader::row_at(&image::JOB, call.request, 27);
+    let start = 27 + token.len();
+    let size = reader::row_at(&image::REFERENCE, call.request, start).len();
     let name = root.len() + 1;
     let tables = call.contents.tables;
     let more = edits::after_insert(tables[image::ROOTS], spot, name + size);

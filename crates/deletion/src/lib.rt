@@ -1,7 +1,7 @@
 // The actions on reservations for deletion.
 #![tactic(auto)]
 
-ghost use Rattle.std.specs.Prelude.{◌≡◌, not, ◌&&◌, eqb, length};
+ghost use Rattle.std.specs.Prelude.{◌≡◌, length};
 ghost use Rattle.refusals.specs.Numbers.{told};
 ghost use Rattle.parts.specs.Gather.{run};
 ghost use Rattle.requests.specs.declared.PublicationAction.{PublicationAction};
@@ -28,15 +28,8 @@ fn matches(by_plan_key_only: bool, row: &[u8], shown: &[u8], plan: &[u8], key: &
             && text::same(fields::text_at(row, 0), key)
 }
 
-// Whether the root intent epoch is another than the one that a plan was marked at, where that counts.
-fn epoch_changed(ignored: bool, mark: u64, epoch: u64) -> bool
-    ensures { result ≡ not ignored && not (eqb mark epoch) }
-{
-    !ignored && mark != epoch
-}
-
 // The first test that refuses a reservation; `place` is that of the key among the reservations.
-#[tactic(auto, using(next::specs::Rows::rows_as), unfolding(machine::specs::Tests::first_of))]
+#[tactic(auto, using(image::specs::Rows::rows_as), unfolding(machine::specs::Tests::first_of))]
 fn reserve_refusal(call: &Call<'_>, a: &ReserveDelete, place: Place) -> Result<(), Refusal>
     ensures { told result ≡ first_of (reserve_tests call.now.image.now call.now.contents.now call.now.request.now call.now.faults a.now place) }
 {
@@ -49,7 +42,7 @@ fn reserve_refusal(call: &Call<'_>, a: &ReserveDelete, place: Place) -> Result<(
     if !records::valid_identity(call.request, a.identity) {
         return Err(Refusal::InvalidRequest);
     }
-    if epoch_changed(
+    if next::differ_unless(
         call.faults.ignore_root_epoch,
         a.mark_epoch,
         call.contents.scalars.root_intent_epoch,

@@ -111,6 +111,7 @@ impl<'a> Walker<'a> {
     }
 
     // n texts, each after the one before it.
+    // Not by `rows` of one text code: `rows` comes here by `code` and `keys`, and six methods would call each other in a circle.
     #[tactic(auto, using(crate::proofs::WalkSteps::loops))]
     fn texts(&mut self, limit: u8, n: u8) -> Result<(), Refusal>
         ensures { read result self.new.rest.now ≡ forget (rows (read_text limit) itself n None self.old.rest.now) }

@@ -10,6 +10,7 @@ pub mod Walked
 pub mod Front
 pub mod Stored
 pub mod TableLaws
+pub mod Rows
 pub mod Edges
 pub mod Computes
 pub mod Limits

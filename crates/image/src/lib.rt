@@ -1,7 +1,7 @@
 // The image: opened once, then read by place.
 #![tactic(auto)]
 
-ghost use Rattle.std.specs.Prelude.{◌≡◌, ◌+◌, ◌*◌, ◌≤◌, length, take, drop};
+ghost use Rattle.std.specs.Prelude.{◌≡◌, ◌+◌, ◌*◌, ◌≤◌, ◌<◌, length, take, drop};
 ghost use Rattle.refusals.specs.Numbers.{numbered, told};
 ghost use Rattle.parts.specs.Digits.{digits, value};
 ghost use Rattle.parts.specs.Over.{Wrote};
@@ -15,6 +15,7 @@ ghost use Rattle.image.specs.ImageParts.{words, entries_from};
 ghost use Rattle.image.specs.Opened.{opened_of, test_of, measures_in, root_bytes, root_width};
 ghost use Rattle.image.specs.Front.{entry_bytes, head_of, scalars_size, scalars_front, front_of, window_width, Light, Small, contents_over_limit};
 ghost use Rattle.image.specs.Placed.{bytes_of, form_of, entry_size, first_of, scalars_body, table_body, row_codes, in_place, body_at, maybe_number_at, maybe_text_at, scalars_at, contents_at};
+ghost use Rattle.image.specs.Rows.{RowsOf};
 ghost use Rattle.image.specs.Walked.{walk_body, walk_image_in};
 
 use fields::{Code, KEY, KEYS, NAME, U64};
@@ -22,6 +23,7 @@ use parts::Part;
 use refusals::Refusal;
 use std::array;
 use std::marker::Model;
+use tables::TableRows;
 
 // An entry of the contents: where a body starts, its bytes, and its rows. The scalars count as one row.
 #[derive(Clone, Copy, Debug, Default, PartialEq, Eq)]
@@ -31,7 +33,7 @@ pub struct Table {
     pub count: usize,
 }
 
-// A text's bytes, by place.
+// A text's bytes, by place. No slice: fields that stand side by side are written as one run, which slices of their own do not tell.
 #[derive(Clone, Copy, Debug, PartialEq, Eq)]
 pub struct TextAt {
     pub at: usize,
@@ -56,7 +58,7 @@ pub struct Scalars {
     pub collection_root: Option<TextAt>,
 }
 
-// The tables in their order.
+// The tables in their order. Numbers and no enum: they are the indices of the array of tables, over which loops count.
 pub const INTENTS: usize = 0;
 
 pub const ROOTS: usize = 1;
@@ -313,7 +315,8 @@ impl Layout {
         4 + self.entry_size() * (1 + TABLES)
     }
 
-    // The entry of a body, of which the scalars are the first. Its bytes are there, so that each number is one load.
+    // The entry of a body, of which the scalars are the first. Its bytes are there, so that each number is one load; `contents`
+    // and `bodies_end` ask for those of all entries for that.
     fn entry(&self, s: &[u8], body: usize) -> Table
         requires number { body ≤ 6 }
         requires header { first_of (bytes_of self.now.counts) ≤ length s.now }
@@ -360,6 +363,7 @@ impl Layout {
     }
 }
 
+// Here and of a text the byte is tested in place: one function for both would take the reader of the value, and be longer.
 fn maybe_number_at(s: &[u8], p: usize) -> Option<u64>
     requires { p ≤ 1000 }
     ensures { result ≡ maybe_number_at s.now p }
@@ -447,6 +451,20 @@ impl Contents {
             .iter()
             .zip(&BASE.most)
             .any(|(t, most)| *most < t.count)
+    }
+
+    // The rows of a table of the image that has these contents.
+    pub fn rows<'a>(&self, image: &'a [u8], table: usize) -> TableRows<'a>
+        requires { table < 6 }
+        ensures { RowsOf image.now self.now table result }
+    {
+        let place = self.tables[table];
+        TableRows {
+            codes: row_shape(table),
+            bytes: image,
+            at: place.at,
+            left: place.count,
+        }
     }
 }
 
@@ -569,7 +587,8 @@ fn put_scalars(out: &mut [u8], at: usize, x: &[u8], n: &Scalars) -> usize
     put_root(out, r, x, n.collection_root)
 }
 
-// The front of an image whose contents are c; the root's text comes from x.
+// The front of an image whose contents are c; the root's text comes from x. `Small` is no invariant of `Contents`: what is read
+// from any bytes need not be small.
 pub fn front_of(x: &[u8], c: &Contents) -> Front
     requires { Small c.now }
     ensures { result ≡ front_of x.now c.now }

@@ -35,8 +35,7 @@ fn prepare_refusal(call: &Call<'_>, a: &Prepare, place: Place) -> Result<(), Ref
     }
     if reserved::is_reserved(
         call.faults.ignore_delete_reservation,
-        call.image,
-        call.contents.tables[image::RESERVATIONS],
+        call.rows(image::RESERVATIONS),
         call.request,
         a.intent.object_keys.at,
     ) {

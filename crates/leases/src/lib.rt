@@ -69,10 +69,10 @@ fn acquire_refusal(call: &Call<'_>, a: &AcquireLease, p: Place) -> Result<(), Re
     if n.observed_commit_frontier < a.snapshot_version {
         return Err(Refusal::SnapshotAheadOfFrontier);
     }
-    let reservations = call.contents.tables[image::RESERVATIONS];
+    let reservations = call.rows(image::RESERVATIONS);
     let keys = a.closure.object_keys.at;
     let late = a.deadline_tick <= n.lease_clock_tick;
-    let names_reserved = reserved::is_reserved(false, call.image, reservations, call.request, keys);
+    let names_reserved = reserved::is_reserved(false, reservations, call.request, keys);
     if late {
         return Err(Refusal::LeaseDeadlineInvalid);
     }
@@ -185,11 +185,11 @@ fn renew_refusal(
     if held.lease_epoch != a.expected_lease_epoch {
         return Err(Refusal::LeaseEpochMismatch);
     }
-    let reservations = call.contents.tables[image::RESERVATIONS];
+    let reservations = call.rows(image::RESERVATIONS);
     let keys = held.closure.object_keys.at;
     let past = a.new_deadline_tick <= call.contents.scalars.lease_clock_tick;
     let no_later = a.new_deadline_tick <= held.deadline_tick;
-    let names_reserved = reserved::is_reserved(false, call.image, reservations, row, keys);
+    let names_reserved = reserved::is_reserved(false, reservations, row, keys);
     if past {
         return Err(Refusal::LeaseDeadlineInvalid);
     }

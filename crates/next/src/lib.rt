@@ -1,13 +1,14 @@
 // The next image and the outcome, measured and then written: the one way in which a transition answers.
 #![tactic(auto)]
 
-ghost use Rattle.std.specs.Prelude.{◌≡◌, ◌∷◌, ◌++◌, ◌≤◌, ◌<◌, length, take, cond};
+ghost use Rattle.std.specs.Prelude.{◌≡◌, ◌∷◌, ◌≤◌, ◌<◌, length, cond, not, ◌&&◌, eqb};
 ghost use Rattle.machine.specs.Next.{up};
 ghost use Rattle.parts.specs.Gather.{gather_of, Filled};
 ghost use Rattle.parts.specs.declared.Part.{Part};
 ghost use Rattle.image.specs.Front.{front_of, contents_over_limit, Small};
+ghost use Rattle.image.specs.Rows.{RowsOf};
 ghost use Rattle.next.specs.Contents.{revised, raised};
-ghost use Rattle.next.specs.Rows.{RowsOf, place_in};
+ghost use Rattle.next.specs.Rows.{place_in};
 ghost use Rattle.next.specs.Emit.{Emitted, EmittedAs};
 ghost use Rattle.next.specs.declared.PublicationOutcome.{PublicationOutcome};
 ghost use Rattle.next.specs.Outcome.{PermitEnds, AcquiredEnds, RenewedEnds, JobEnds, ReceiptEnds, permit_parts_of, acquired_parts_of, renewed_parts_of, prepared_parts_of, published_parts_of, RowsStand, Listed, ExpiredAs, outcome_bytes, Fits};
@@ -42,7 +43,8 @@ pub enum PublicationOutcome {
     CollectionPublished(CollectionReceipt),
 }
 
-// What a call was lent, opened and read: the image and what it holds, the request with its context and its fault flags.
+// What a call was lent, opened and read: the image and what it holds, the request with its context and its fault flags. What `Asks`
+// says is a clause and no invariant here: it ties the call to its action, which is an argument of its own.
 #[derive(Clone, Copy)]
 pub struct Call<'a> {
     pub image: &'a [u8],
@@ -56,15 +58,9 @@ impl<'a> Call<'a> {
     // The rows of a table of the image.
     pub fn rows(&self, table: usize) -> TableRows<'a>
         requires { table < 6 }
-        ensures { RowsOf self.now table result }
+        ensures { RowsOf self.now.image.now self.now.contents.now table result }
     {
-        let place = self.contents.tables[table];
-        TableRows {
-            codes: image::row_shape(table),
-            bytes: self.image,
-            at: place.at,
-            left: place.count,
-        }
+        self.contents.rows(self.image, table)
     }
 
     // Where the row of a table with an id stands in the image, or would stand.
@@ -201,7 +197,13 @@ fn expired_parts(s: &[u8], o: &LeasesExpired) -> [Part; 66]
 {
     let mut parts = [Part::EMPTY; 66];
     let mut places = [0; 64];
-    let ended = expiry::in_order(s, o.at, o.count, o.tick, &mut places);
+    let leases = TableRows {
+        codes: &image::LEASE,
+        bytes: s,
+        at: o.at,
+        left: o.count,
+    };
+    let ended = expiry::in_order(leases, o.tick, &mut places);
     parts[0] = Part::Number(4, 1);
     parts[1] = Part::Number(ended as u64, 1);
     ids(&mut parts, s, &places[..ended]);
@@ -316,7 +318,8 @@ fn commit_expired(
     commit(call, change, &told[..leases.count + 2], next, outcome)
 }
 
-// The one way in which an accepted action answers.
+// The one way in which an accepted action answers. `next` and `outcome` are two parameters here as everywhere: C lends them as two
+// slices, and every contract tells both apart.
 pub fn emit(
     call: &Call<'_>,
     change: &Change<'_>,
@@ -382,11 +385,18 @@ pub fn up(n: u64) -> u64
     n.saturating_add(1)
 }
 
-// The root intent epoch after a change of leases: a fault flag leaves it.
+// An epoch after a change of leases, which some cases leave where it is.
 pub fn up_unless(omit: bool, n: u64) -> u64
     ensures { result ≡ cond omit n (up n) }
 {
     if omit { n } else { up(n) }
+}
+
+// Whether a number shown is another than the one stored, where a fault flag does not say to pass over it.
+pub fn differ_unless(ignore: bool, a: u64, b: u64) -> bool
+    ensures { result ≡ not ignore && not (eqb a b) }
+{
+    !ignore && a != b
 }
 
 // The contents at a revision.

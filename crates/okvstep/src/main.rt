@@ -92,6 +92,7 @@ struct Authority {
     outcome: [u8; OUTCOME_ROOM],
 }
 
+// `AtMoment` stands in clauses: an invariant goes with a view of the whole value, and then no clause could name the fields.
 impl Authority {
     // Before the first frame, with the default image.
     fn new() -> Authority

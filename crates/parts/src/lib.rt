@@ -81,6 +81,7 @@ pub fn u32_at(s: &[u8], at: usize) -> u32
     u32::from_le_bytes(bytes_at(s, at))
 }
 
+// No writer holds out and at: what a contract says of a written slice is said of the whole slice, with what stands before and behind.
 pub fn put(out: &mut [u8], at: usize, x: &[u8]) -> usize
     requires { at + length x.now ≤ length out.old }
     ensures { Wrote out.old at x.now result out.new }
@@ -90,6 +91,7 @@ pub fn put(out: &mut [u8], at: usize, x: &[u8]) -> usize
     end
 }
 
+// The lowest n bytes of v. By hand: a number of any width; the library has whole ones only.
 pub fn put_digits(out: &mut [u8], at: usize, v: u64, n: usize) -> usize
     requires { at + n ≤ length out.old }
     ensures { Wrote out.old at (digits n v) result out.new }

@@ -1,6 +1,6 @@
 -- References as bytes: those of a stored row after its id, and those of an option after its flag, are the same just where both
 -- are absent or both hold equal references.
-use Rattle.std.specs.Prelude.{ℕ, suc, ◌+◌, ◌-◌, List, [], ◌++◌, ◌≡◌, refl, length, take, drop, Option, None, Some}
+use Rattle.std.specs.Prelude.{ℕ, suc, ◌+◌, ◌-◌, List, [], ◌++◌, ◌≡◌, refl, length, drop, Option, None, Some}
 use Rattle.std.proofs.Common.{arith, append-nil, sym, ap, ◌∙◌, length-append, length-drop}
 use Rattle.std.proofs.Math.Seq.{drop-append_seam, drop-nil, take-append_seam}
 use Rattle.text.specs.Same.{same_of}
@@ -9,8 +9,8 @@ use Rattle.state.specs.Sorted.{Ascending}
 use Rattle.state.proofs.Places.{at}
 use Rattle.state.specs.Records.{State, ObjectReference, reference_eq}
 use Rattle.fields.specs.Format.{Field, El, enc, enc_text, enc_option, option, all, Within}
-use Rattle.fields.specs.Codes.{codes, skip}
-use Rattle.fields.specs.Walks.{place_of}
+use Rattle.fields.specs.Codes.{codes}
+use Rattle.reader.specs.Records.{record_of}
 use Rattle.parts.specs.Gather.{run}
 use Rattle.image.specs.Body.{row}
 use Rattle.image.specs.Shapes.{short, reference, reference_parts, each_option}
@@ -88,7 +88,14 @@ module _ {x : List ℕ} {c : Contents} {s : State} (h : Holds x c s) (f : Formed
 -- ---- in a request: an option of a reference, and after it a reference to the end
 
 abbrev pub option_at : List ℕ → ℕ → List ℕ
-option_at s at = take (place_of s (skip 0 (codes (option reference)) (drop at s)) - at) (drop at s)
+option_at s at = record_of (codes (option reference)) (drop at s)
+
+-- the record that was written at the head, whatever it holds
+pub record-to : (f : Field) (v : El f) (r : List ℕ) → record_of (codes f) (enc f v ++ r) ≡ enc f v
+unfolding record_of
+record-to f v r =
+    let n : length (enc f v ++ r) - length r ≡ length (enc f v) = omega (arith, length-append (enc f v) r) in
+    rw (skip-to f v r, n) (take-append_seam (enc f v) r)
 
 module _ (q : List ℕ) (at : ℕ) (o : Option ObjectReference) (v : ObjectReference) (here : drop at q ≡ enc (option reference) (each_option reference_parts o) ++ enc reference (reference_parts v)) where
   abbrev option_bytes : List ℕ
@@ -98,11 +105,7 @@ module _ (q : List ℕ) (at : ℕ) (o : Option ObjectReference) (v : ObjectRefer
   lengths = sym (length-drop at q) ∙ ap length here ∙ length-append option_bytes (held (Some v))
 
   pub option-here : option_at q at ≡ option_bytes
-  option-here =
-      let z : skip 0 (codes (option reference)) (drop at q) ≡ held (Some v) =
-      (λ i. skip 0 (codes (option reference)) (here i)) ∙ skip-to (option reference) (each_option reference_parts o) (held (Some v)) in
-      let n : place_of q (held (Some v)) - at ≡ length option_bytes = omega (arith, lengths) in
-      (λ i. take (place_of q (z i) - at) (here i)) ∙ ap (λ (k : ℕ). take k (option_bytes ++ held (Some v))) n ∙ take-append_seam option_bytes (held (Some v))
+  option-here = ap (record_of (codes (option reference))) here ∙ record-to (option reference) (each_option reference_parts o) (held (Some v))
 
   pub last-here : (m : ℕ) → m ≡ at + length option_bytes → run q m (length q) ≡ held (Some v)
   last-here m e = run-rest q (held (Some v)) m (length q) (after_seam q option_bytes (held (Some v)) at m here e) (omega arith)

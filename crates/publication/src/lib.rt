@@ -20,8 +20,7 @@ use requests::{Pin, Unpin};
 pub fn option_at<'a>(s: &'a [u8], at: usize) -> &'a [u8]
     ensures { result.now ≡ option_at s.now at }
 {
-    let end = tables::skip_record(&image::MAYBE_REFERENCE, s, at);
-    parts::clip(s, at, end.saturating_sub(at))
+    reader::row_at(&image::MAYBE_REFERENCE, s, at)
 }
 
 // Whether a row has, after its first bytes, just what the option has after its flag.

@@ -74,6 +74,7 @@ impl<'a> Cursor<'a> {
         text
     }
 
+    // Here and of a reference the byte is tested in place: one function for both would take the reader of the value, and be longer.
     fn maybe_text(&mut self) -> Option<TextAt>
         ensures value { result ≡ maybe_text_in self.old.bytes.now self.old.at }
         ensures on { self.new ≡ beyond (option name) self.old }

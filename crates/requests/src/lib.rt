@@ -26,8 +26,7 @@ pub enum ObjectKind {
     Manifest,
 }
 
-// What a request and its records hold. Nothing compares or prints it; with equality and Debug derived too, the check of this crate takes
-// 1.7 times as long.
+// What a request and its records hold. Nothing compares or prints it.
 
 // A set of keys: the place of its count byte, and how many bytes it takes, count byte included.
 #[derive(Clone, Copy)]

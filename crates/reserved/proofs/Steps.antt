@@ -1,24 +1,23 @@
 -- One key of the walk over a set, and one row of the search for a key.
 use Rattle.std.specs.Prelude.{ℕ, suc, ◌-◌, ◌<◌, Bool, false, ◌||◌, List, [], ◌∷◌, ◌≡◌, refl, length, drop, Option, None, Some}
-use Rattle.std.proofs.Math.Bool.{not}
-use Rattle.std.proofs.Common.{arith, ap, ◌∙◌}
+use Rattle.std.proofs.Common.{arith, ap, ◌∙◌, eq-eqb}
 use Rattle.text.specs.Order.{order_of}
 use Rattle.text.proofs.OrderLaws.{flip, order_flip, order_trans}
 use Rattle.std.specs.declared.cmp.Ordering.TheVariants.{Less, Greater}
-use Rattle.state.specs.Maps.{Text, any, is_empty}
+use Rattle.state.specs.Maps.{Text, any, is_some}
 use Rattle.fields.specs.declared.Code.{Code}
 use Rattle.fields.specs.Rows.{text_here}
 use Rattle.tables.specs.Skips.{after_record}
-use Rattle.tables.specs.Seek.{nothing_at, seek, row_of, after_row}
+use Rattle.tables.specs.Seek.{nothing_at, seek, found, after_row}
 use Rattle.tables.specs.declared.TableRows.{TableRows}
 use Rattle.reserved.specs.Located.{located_in, located_of}
 use Rattle.reserved.specs.Passed.{sought, Passed, Reached}
 
 -- ---- no rows
 
-none_at : (s : List ℕ) → not (is_empty (row_of (nothing_at s))) ≡ false
-unfolding row_of
-none_at s = let z : length s - length s ≡ 0 = omega arith in rw z
+none_at : (s : List ℕ) → is_some (found (nothing_at s)) ≡ false
+unfolding found
+none_at s = rw (eq-eqb (length s) (length s) refl)
 
 no_rows : (cs : List Code) (s : List ℕ) (k : Text) → located_in cs 0 s k ≡ false
 unfolding located_in seek
@@ -50,7 +49,7 @@ module _ (rows : TableRows) (id : Text) where
   -- the same answer where the rows before the id are left out
   same_row : (rest : TableRows) → sought rows id ≡ sought rest id → located_of rows id ≡ located_of rest id
   unfolding located_in
-  same_row rest e = ap (λ x. not (is_empty (row_of x))) e
+  same_row rest e = ap (λ x. is_some (found x)) e
 
   -- a search that began later
   passed_on : (from rest : TableRows) (last : Text) → Passed rows last from → order_of last id ≡ Less → Passed from id rest → Passed rows id rest

@@ -1,4 +1,4 @@
--- Whether a row has an id, by the row's bytes; on the bytes of a state's table it is whether the map has the key.
+-- Whether a row has an id, by its bytes; on the bytes of a state's table it is whether the map has the key.
 use Rattle.std.specs.Prelude.{ℕ, Bool, false, ◌||◌, ◌≡◌, length, drop}
 use Rattle.std.proofs.Math.Bool.{not}
 use mathlib.Core.List.{List, [], ◌∷◌, ◌++◌}
@@ -11,8 +11,8 @@ use Rattle.state.specs.Records.{State}
 use Rattle.fields.specs.Format.{all, Every, enc, enc_text}
 use Rattle.fields.specs.declared.Code.{Code}
 use Rattle.fields.specs.Codes.{codes}
-use Rattle.tables.specs.Seek.{seek, row_of}
-use Rattle.tables.specs.SeekLaws.{Hopped}
+use Rattle.tables.specs.Seek.{seek, row_of, found, unless_empty}
+use Rattle.tables.specs.SeekLaws.{Hopped, found-row}
 use Rattle.tables.specs.declared.TableRows.{TableRows}
 use Rattle.image.specs.Shapes.{permit}
 use Rattle.image.specs.Layout.{TableName, reservations, map_of, row_format, Formed}
@@ -25,11 +25,15 @@ use Rattle.image.specs.declared.Contents.{Contents}
 use Rattle.image.specs.declared.Table.{Table}
 
 unfoldable pub located_in : List Code → ℕ → List ℕ → Text → Bool
-located_in cs n s id = not (is_empty (row_of (seek cs n id s)))
+located_in cs n s id = is_some (found (seek cs n id s))
 
 -- the same of some rows
 abbrev pub located_of : TableRows → Text → Bool
 located_of rows id = located_in rows.codes.now rows.left (drop rows.at rows.bytes.now) id
+
+some-row : (l : List ℕ) → is_some (unless_empty l) ≡ not (is_empty l)
+some-row [] = refl
+some-row (x ∷ l) = refl
 
 -- a row is never empty
 abbrev NotEmpty : {A : Type 0} → (Entry A → List ℕ) → Type 0
@@ -45,7 +49,10 @@ module _ {A : Type 0} (cs : List Code) (write : Entry A → List ℕ) (full : No
 
     located-is : (k : Text) → located_in cs (length m) (drop p x) k ≡ has_key k m
     unfolding located_in
-    located-is k = ap (λ (l : List ℕ). not (is_empty l)) (find_row cs write x p m r here hops k) ∙ row-there (at k m) k ∙ ap is_some (sym (lookup-is k m ascending))
+    located-is k =
+        ap is_some (found-row cs (length m) k (drop p x)) ∙ some-row (row_of (seek cs (length m) k (drop p x)))
+        ∙ ap (λ (l : List ℕ). not (is_empty l)) (find_row cs write x p m r here hops k)
+        ∙ row-there (at k m) k ∙ ap is_some (sym (lookup-is k m ascending))
 
 row-full : (t : TableName) → NotEmpty (row_bytes t)
 unfolding enc enc_text

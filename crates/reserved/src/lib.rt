@@ -4,10 +4,9 @@
 ghost use Rattle.std.specs.Prelude.{◌≡◌, not, ◌&&◌, drop};
 ghost use Rattle.state.specs.Maps.{any};
 ghost use Rattle.sets.specs.Sets.{set_of};
-ghost use Rattle.reserved.specs.Located.{located_of, reserved_in};
+ghost use Rattle.reserved.specs.Located.{located_of};
 ghost use Rattle.reserved.specs.Passed.{Reached, Passed};
 
-use image::Table;
 use std::cmp::Ordering;
 use tables::TableRows;
 
@@ -16,11 +15,11 @@ use tables::TableRows;
 pub fn located(rows: TableRows<'_>, id: &[u8]) -> bool
     ensures { result ≡ located_of rows.entry id.now }
 {
-    !rows.find(id).is_empty()
+    rows.find(id).is_some()
 }
 
-// Goes over the rows before an id, which are before all later ids too; none is left where a row has the id. By the rows that are
-// left and not one by one: those from the row at which it stops are what it hands on.
+// Goes over the rows before an id, which are before all later ids too; none is left where a row has the id. It hands on the rows from
+// the one at which it stops. Over the iterator it proves only with a clause on `next` about places, with which no `for` over rows does.
 #[tactic(auto, using(crate::proofs::Steps::reach_steps))]
 fn reach<'a>(rows: TableRows<'a>, id: &[u8]) -> Option<TableRows<'a>>
     ensures { Reached rows.entry id.now result }
@@ -75,21 +74,9 @@ fn any_located(rows: TableRows<'_>, holder: &[u8], set_at: usize) -> bool
     false
 }
 
-// Whether a key of the set that stands at a place of a request or a row is reserved for deletion; a fault flag leaves the test out.
-pub fn is_reserved(
-    ignore: bool,
-    image: &[u8],
-    reservations: Table,
-    holder: &[u8],
-    keys: usize,
-) -> bool
-    ensures { result ≡ (not ignore && reserved_in image.now reservations (set_of (drop keys holder.now))) }
+// Whether one of the reservations has a key of the set that stands at a place of a request or a row; a fault flag leaves the test out.
+pub fn is_reserved(ignore: bool, reservations: TableRows<'_>, holder: &[u8], keys: usize) -> bool
+    ensures { result ≡ (not ignore && any (located_of reservations.entry) (set_of (drop keys holder.now))) }
 {
-    let rows = TableRows {
-        codes: &image::PERMIT,
-        bytes: image,
-        at: reservations.at,
-        left: reservations.count,
-    };
-    !ignore && any_located(rows, holder, keys)
+    !ignore && any_located(reservations, holder, keys)
 }

@@ -1,6 +1,6 @@
 -- One step of each loop at a position, for each way out of it.
-use Rattle.std.specs.Prelude.{ℕ, zero, suc, ◌+◌, ◌-◌, ◌≤◌, ◌<◌, List, [], ◌∷◌, ◌≡◌, refl, length, min, take, drop, cond, eqb}
-use Rattle.std.proofs.Common.{arith, sym, ap, ◌∙◌, add-one, get_or, length-drop, drop_of_length-le, drop-cons, drop-drop}
+use Rattle.std.specs.Prelude.{ℕ, zero, suc, ◌+◌, ◌-◌, ◌≤◌, ◌<◌, Bool, List, [], ◌∷◌, ◌≡◌, refl, length, min, take, drop, cond, eqb, None, Some}
+use Rattle.std.proofs.Common.{arith, sym, ap, ◌∙◌, add-one, get_or, length-drop, drop_of_length-le, drop-cons, drop-drop, eq-eqb, ne_eqb}
 use Rattle.parts.specs.Gather.{run}
 use Rattle.text.specs.Order.{order_of}
 use Rattle.std.specs.declared.cmp.Ordering.TheVariants.{Less, Equal, Greater}
@@ -11,8 +11,8 @@ use Rattle.fields.specs.Walks.{place_of, Rest}
 use Rattle.fields.proofs.WalkLaws.{to_end, drop-within, end-at, rest-place, rest_trans, rest-drop, hop-rest}
 use Rattle.fields.specs.Rows.{text_here}
 use Rattle.tables.specs.Skips.{left_over, past_over, skip-cons, skip-rest, after_record}
-use Rattle.tables.specs.Seek.{seek, placed, row_of, rows_at}
-use Rattle.tables.specs.SeekLaws.{SeenIn, seek_in, row-places}
+use Rattle.tables.specs.Seek.{Seen, seek, placed, row_of, found, rows_at}
+use Rattle.tables.specs.SeekLaws.{SeenIn, seek_in, rest-length, row-places}
 use Rattle.tables.specs.declared.Place.{Place}
 
 -- ---- places
@@ -126,12 +126,33 @@ module _ (cs : List Code) (id s : List ℕ) (p n i : ℕ) where
 pub ruleset seek_steps = (seek_none, seek_before, seek_here, seek_more, drop-within)
 
 -- the row's part, by its place
-pub find_part : (cs : List Code) (n : ℕ) (id s : List ℕ) (at : ℕ) (p : Place) → p ≡ placed s (seek cs n id (drop at s)) → run s p.start (p.end - p.start) ≡ row_of (seek cs n id (drop at s))
-find_part cs n id s at p e =
-    let x = seek cs n id (drop at s) in
-    let i = seek_in cs n id (drop at s) in
-    let j : SeenIn s x = record { from_rest = rest_trans (rest-drop at s) i.from_rest; to_rest = i.to_rest } in
-    ap (λ (y : Place). take (y.end - y.start) (drop y.start s)) e ∙ row-places s x j
+module _ (cs : List Code) (n : ℕ) (id s : List ℕ) (at : ℕ) (p : Place) where
+  abbrev seen : Seen
+  seen = seek cs n id (drop at s)
+
+  seen_in : SeenIn s seen
+  seen_in = let i = seek_in cs n id (drop at s) in record { from_rest = rest_trans (rest-drop at s) i.from_rest; to_rest = i.to_rest }
+
+  pub find_none : p ≡ placed s seen → p.start ≡ p.end → found seen ≡ None
+  unfolding found
+  find_none e h =
+      let a = rest-length seen_in.from_rest in
+      let b = rest-length seen_in.to_rest in
+      let i = ap (λ (y : Place). y.start) e in
+      let j = ap (λ (y : Place). y.end) e in
+      let z : length seen.from ≡ length seen.to = omega arith in
+      ap (λ (b : Bool). cond b None (Some (row_of seen))) (eq-eqb _ _ z)
+
+  pub find_some : p ≡ placed s seen → (p.start ≡ p.end → ⊥) → found seen ≡ Some (run s p.start (p.end - p.start))
+  unfolding found
+  find_some e h =
+      let i = ap (λ (y : Place). y.start) e in
+      let j = ap (λ (y : Place). y.end) e in
+      let z : length seen.from ≡ length seen.to → ⊥ = λ k. h (i ∙ ap (λ (m : ℕ). length s - m) k ∙ sym j) in
+      ap (λ (b : Bool). cond b None (Some (row_of seen))) (ne_eqb _ _ z)
+      ∙ ap (λ (r : List ℕ). Some r) (sym (ap (λ (y : Place). take (y.end - y.start) (drop y.start s)) e ∙ row-places s seen seen_in))
+
+pub ruleset find_steps = (find_none, find_some)
 
 -- ---- rows, one by one
 

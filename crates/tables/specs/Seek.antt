@@ -1,7 +1,7 @@
 -- Where a key stands, or would stand, among rows that ascend by the text at their head.
-use Rattle.std.specs.Prelude.{ℕ, zero, suc, ◌-◌, List, [], ◌∷◌, length, take, drop}
+use Rattle.std.specs.Prelude.{ℕ, zero, suc, ◌-◌, cond, eqb, List, [], ◌∷◌, length, take, drop, Option, None, Some}
 use Rattle.text.specs.Order.{order_of}
-use Rattle.state.specs.Maps.{Text, side}
+use Rattle.state.specs.Maps.{Text, side, is_empty}
 use Rattle.fields.specs.declared.Code.{Code}
 use Rattle.fields.specs.Codes.{skip}
 use Rattle.fields.specs.Walks.{place_of}
@@ -27,6 +27,14 @@ placed s x = record { start = place_of s x.from; end = place_of s x.to }
 -- the row's bytes
 unfoldable pub row_of : Seen → List ℕ
 row_of x = take (length x.from - length x.to) x.from
+
+-- the same, if there is one
+unfoldable pub found : Seen → Option Text
+found x = cond (eqb (length x.from) (length x.to)) None (Some (row_of x))
+
+-- bytes of a row, if there are any
+abbrev pub unless_empty : List ℕ → Option Text
+unless_empty l = cond (is_empty l) None (Some l)
 
 -- the rows, each as what is left from it on
 unfoldable pub rows_at : List Code → ℕ → List ℕ → List (List ℕ)

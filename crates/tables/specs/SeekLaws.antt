@@ -1,12 +1,13 @@
 -- What the hops find in bytes that were written as rows: the map's own lookup, and its rows one by one.
 use Prim.Native.Nat.{ℕ, zero, suc, ◌-◌, ◌≤◌}
-use Rattle.std.proofs.Common.{arith, sym, ◌∙◌, length-drop}
+use Rattle.std.proofs.Math.Bool.{Bool, cond}
+use Rattle.std.proofs.Common.{arith, sym, ◌∙◌, length-drop, eq-eqb, ne_eqb}
 use mathlib.Core.List.{List, [], ◌∷◌, ◌++◌, append_assoc, append-nil}
-use Rattle.std.specs.Prelude.{◌≡◌, length, take, drop}
+use Rattle.std.specs.Prelude.{◌≡◌, eqb, length, take, drop, None, Some}
 use Rattle.std.proofs.Math.Path.{refl, ap}
 use Rattle.text.specs.Order.{order_of}
 use Rattle.std.specs.declared.cmp.Ordering.TheVariants.{Less, Equal, Greater}
-use Rattle.state.specs.Maps.{Text, Map, Entry, ◌⟼◌, key_of, side, Every}
+use Rattle.state.specs.Maps.{Text, Map, Entry, ◌⟼◌, key_of, side, is_empty, Every}
 use Rattle.state.proofs.Places.{at, behind}
 use Rattle.fields.specs.Format.{Field, text, ◌▹◌, El, enc, all, Within}
 use Rattle.fields.proofs.FormatLaws.{dec-enc}
@@ -18,7 +19,7 @@ use Rattle.fields.proofs.WalkLaws.{rest_all, rest_trans, rest-place}
 use Rattle.fields.specs.Rows.{text_here}
 use Rattle.fields.proofs.RowLaws.{row-text}
 use Rattle.tables.specs.Skips.{skip-rest}
-use Rattle.tables.specs.Seek.{Seen, nothing_at, seek, row_of, rows_at}
+use Rattle.tables.specs.Seek.{Seen, nothing_at, seek, row_of, found, unless_empty, rows_at}
 
 -- ---- for any bytes: the row is a part of them
 
@@ -36,7 +37,7 @@ seek_in cs (suc n) id s =
       | Greater ↦ (let i = seek_in cs n id (skip 0 cs s) in record { from_rest = rest_trans (skip-rest 0 cs s) i.from_rest; to_rest = i.to_rest })
     ]
 
-rest-length : {s r : List ℕ} → Rest s r → length r ≤ length s
+pub rest-length : {s r : List ℕ} → Rest s r → length r ≤ length s
 rest-length {s} a = let l = ap length a.is ∙ length-drop a.bytes s in omega arith
 
 -- the row by its places
@@ -47,6 +48,19 @@ row-places s x i =
     let b = rest-length i.to_rest in
     let z : place_of s x.to - place_of s x.from ≡ length x.from - length x.to = omega arith in
     ap (λ (m : ℕ). take m (drop (place_of s x.from) s)) z ∙ ap (take (length x.from - length x.to)) (rest-place i.from_rest)
+
+-- A ROW IS FOUND WHERE IT IS NOT EMPTY
+is_row : (l : List ℕ) (k m : ℕ) → m ≡ length l - k → k ≤ length l → eqb (length l) k ≡ is_empty (take m l)
+is_row l k zero e h = eq-eqb (length l) k (omega arith)
+is_row [] k (suc m) e h = let z : ⊥ = omega arith in absurd z
+is_row (x ∷ l) k (suc m) e h = ne_eqb (suc (length l)) k (λ z. omega arith)
+
+pub found-row : (cs : List Code) (n : ℕ) (id : Text) (s : List ℕ) → found (seek cs n id s) ≡ unless_empty (row_of (seek cs n id s))
+unfolding found row_of
+found-row cs n id s =
+    let x = seek cs n id s in
+    ap (λ (b : Bool). cond b None (Some (take (length x.from - length x.to) x.from)))
+    (is_row x.from (length x.to) (length x.from - length x.to) refl (rest-length (seek_in cs n id s).to_rest))
 
 -- ---- rows that were written: each has its key at its head, and is hopped over
 

@@ -28,6 +28,11 @@ past-rest (Text n) s = hop-rest s
 past-rest (Keys m n) s = hop_set-rest s
 past-rest (Maybe n) s = rest-drop 1 s
 
+pub past_over-rest : (k : ℕ) (c : Code) (s : List ℕ) → Rest s (past_over k c s)
+unfolding past_over
+past_over-rest zero c s = past-rest c s
+past_over-rest (suc k) c s = rest_all s
+
 pub skip-rest : (k : ℕ) (cs : List Code) (s : List ℕ) → Rest s (skip k cs s)
 unfolding skip
 skip-rest k [] s = rest_all s

@@ -1,7 +1,7 @@
 // Records and tables of bytes that were checked before: hops by length bytes, lookup by id, rows one by one.
 #![tactic(auto)]
 
-ghost use Rattle.std.specs.Prelude.{◌≡◌, ◌-◌, take, drop};
+ghost use Rattle.std.specs.Prelude.{◌≡◌, ◌-◌, take, drop, option_copied};
 ghost use Rattle.std.specs.Iterator.{YieldsFirstRef, item_count};
 ghost use Rattle.fields.specs.Codes.{hops, hop_set, past, passed, skip};
 ghost use Rattle.fields.specs.Walks.{place_of};
@@ -9,7 +9,7 @@ ghost use Rattle.fields.specs.Rows.{text_here};
 ghost use Rattle.parts.specs.Digits.{value};
 ghost use Rattle.parts.specs.Gather.{run};
 ghost use Rattle.tables.specs.Skips.{left_over, past_over};
-ghost use Rattle.tables.specs.Seek.{seek, placed, row_of, rows_left, after_row};
+ghost use Rattle.tables.specs.Seek.{seek, placed, found, rows_left, after_row};
 
 use fields::{Code, Hop};
 use std::cmp::Ordering;
@@ -108,8 +108,8 @@ pub fn skip_record(codes: &[Code], s: &[u8], at: usize) -> usize
     fields::within(s, here.at)
 }
 
-// The row that `locate` found, as a part of s. No Option: it is empty where there is none, which no row is, and what a row
-// holds after its id is compared with what a request expects, and both are empty where there is none.
+// The row that `locate` found, as a part of s. No Option, as `find` gives: it is empty where there is none, which no row is, and
+// what a row holds after its id is compared with what a request expects, and both are empty where there is none.
 pub fn row<'a>(s: &'a [u8], p: Place) -> &'a [u8]
     ensures { result.now ≡ run s.now p.start (p.end - p.start) }
 {
@@ -154,12 +154,16 @@ impl<'a> TableRows<'a> {
         Place { start: p, end: p }
     }
 
-    // The row with an id, as a part of the bytes; empty where there is none, as `row` says.
-    #[tactic(auto, using(crate::proofs::Steps::find_part))]
-    pub fn find(self, id: &[u8]) -> &'a [u8]
-        ensures { result.now ≡ row_of (seek self.entry.codes.now self.entry.left id.now (drop self.entry.at self.entry.bytes.now)) }
+    // The row with an id, as a part of the bytes.
+    #[tactic(auto, using(crate::proofs::Steps::find_steps))]
+    pub fn find(self, id: &[u8]) -> Option<&'a [u8]>
+        ensures { option_copied result ≡ found (seek self.entry.codes.now self.entry.left id.now (drop self.entry.at self.entry.bytes.now)) }
     {
-        row(self.bytes, self.locate(id))
+        let place = self.locate(id);
+        if place.start == place.end {
+            return None;
+        }
+        Some(row(self.bytes, place))
     }
 
     // The rows but for the first of them.

@@ -1,20 +1,20 @@
 -- Validation of a token that was read against an image that was opened.
-use Rattle.std.specs.Prelude.{ℕ, ◌≤◌, Bool, ◌≡◌, eqb, leb, drop, get_or, None, Some}
-use Rattle.std.proofs.Common.{arith, ◌∙◌, ne_eqb}
+use Rattle.std.specs.Prelude.{ℕ, ◌≡◌, eqb, leb, drop, get_or, Option, None, Some}
+use Rattle.std.proofs.Common.{◌∙◌}
 use Rattle.std.proofs.Math.Bool.{cond}
 use mathlib.Core.List.{List, [], ◌∷◌, append-nil}
 use Rattle.std.proofs.Math.Path.{sym, ap}
-use Rattle.std.proofs.Math.ListN.{length}
 use Rattle.text.specs.Same.{same_of}
 use Rattle.parts.specs.Digits.{Bytes}
-use Rattle.state.specs.Maps.{◌⟼◌, lookup}
+use Rattle.state.specs.Maps.{Map, ◌⟼◌, lookup}
 use Rattle.state.proofs.Places.{at}
 use Rattle.state.specs.Sorted.{Ascending}
 use Rattle.next.specs.Edit.{Standing, absent, present, standing}
 use Rattle.state.specs.Records.{State, SnapshotLeaseToken}
 use Rattle.fields.specs.Format.{all, enc, enc_text, Within}
 use Rattle.fields.specs.Codes.{codes}
-use Rattle.tables.specs.Seek.{seek, row_of}
+use Rattle.tables.specs.Seek.{Seen, seek, row_of, found, unless_empty}
+use Rattle.tables.specs.SeekLaws.{found-row}
 use Rattle.image.specs.Contents.{answer, refusal}
 use Rattle.image.specs.Layout.{leases, decode_image}
 use Rattle.image.specs.Opened.{OpenedAs}
@@ -52,20 +52,17 @@ pub not_a_token : (x q : List ℕ) (s : State) (n : ℕ) → decode_image x ≡ 
 unfolding validate_bytes
 not_a_token x q s n e d = rw (e, d)
 
-lease-long : (v : SnapshotLeaseToken) → 1 ≤ length (enc lease (lease_parts v))
-unfolding enc enc_text
-lease-long v = omega arith
-
 -- THE TESTS, on the contents of the image and the row that stands under the token's id
 module _ (x : List ℕ) (c : Contents) (q : List ℕ) (t : TokenAt) where
-  abbrev pub row : List ℕ
-  row = row_of (seek (codes lease) (table_in leases c).count (text_of q t.lease_id) (drop (table_in leases c).at x))
+  abbrev pub seen : Seen
+  seen = seek (codes lease) (table_in leases c).count (text_of q t.lease_id) (drop (table_in leases c).at x)
 
-  abbrev pub tests_of : List ℕ → ℕ
-  tests_of r = cond (eqb (length r) 0) 2 (cond (same_of r q) (cond (leb t.deadline_tick c.scalars.lease_clock_tick) 4 0) 3)
+  abbrev pub tests_of : Option (List ℕ) → ℕ
+  tests_of None = 2
+  tests_of (Some r) = cond (same_of r q) (cond (leb t.deadline_tick c.scalars.lease_clock_tick) 4 0) 3
 
   abbrev pub tests : ℕ
-  tests = cond (eqb c.format_version 1) (tests_of row) 1
+  tests = cond (eqb c.format_version 1) (tests_of (found seen)) 1
 
 module _ {x : List ℕ} {c : Contents} {q : List ℕ} {t : TokenAt} (ready : ReadyToken x c q t) where
   abbrev s : State
@@ -85,7 +82,7 @@ module _ {x : List ℕ} {c : Contents} {q : List ℕ} {t : TokenAt} (ready : Rea
   stored : StoredIn leases s
   stored = stored_in leases s ready.opened.formed
 
-  row_is : row x c q t ≡ all lease_row (at token.lease_id s.leases)
+  row_is : row_of (seen x c q t) ≡ all lease_row (at token.lease_id s.leases)
   row_is =
       (λ i. row_of (seek (codes lease) (count-is ready.opened.holds leases i) token.lease_id (drop (table_in leases c).at x)))
       ∙ find_row (codes lease) lease_row x (table_in leases c).at s.leases (behind leases s) (table_here ready.opened.holds leases) stored.hopped token.lease_id
@@ -94,9 +91,12 @@ module _ {x : List ℕ} {c : Contents} {q : List ℕ} {t : TokenAt} (ready : Rea
   ascends : Ascending s.leases
   ascends = stored.ascending
 
-  row_of-one : (v : SnapshotLeaseToken) → at token.lease_id s.leases ≡ (token.lease_id ⟼ v) ∷ [] → row x c q t ≡ enc lease (lease_parts v)
-  unfolding all
-  row_of-one v e = row_is ∙ ap (all lease_row) e ∙ append-nil (enc lease (lease_parts v))
+  found_as : (m : Map SnapshotLeaseToken) → at token.lease_id s.leases ≡ m → found (seen x c q t) ≡ unless_empty (all lease_row m)
+  found_as m e = found-row (codes lease) (table_in leases c).count token.lease_id (drop (table_in leases c).at x) ∙ ap unless_empty (row_is ∙ ap (all lease_row) e)
+
+  found_one : (v : SnapshotLeaseToken) → at token.lease_id s.leases ≡ (token.lease_id ⟼ v) ∷ [] → found (seen x c q t) ≡ Some (enc lease (lease_parts v))
+  unfolding all enc enc_text
+  found_one v e = found_as ((token.lease_id ⟼ v) ∷ []) e ∙ ap unless_empty (append-nil (enc lease (lease_parts v)))
 
   clock-is : s.lease_clock_tick ≡ c.scalars.lease_clock_tick
   clock-is = sym (ap (λ (l : List ℕ). get_or l 8 0) ready.opened.holds.shows.numbers)
@@ -104,18 +104,17 @@ module _ {x : List ℕ} {c : Contents} {q : List ℕ} {t : TokenAt} (ready : Rea
   abbrev timely : ℕ → ℕ
   timely clock = cond (leb token.deadline_tick clock) 4 0
 
-  found-is : validate_found s token (lookup token.lease_id s.leases) ≡ tests_of x c q t (row x c q t)
+  found-is : validate_found s token (lookup token.lease_id s.leases) ≡ tests_of x c q t (found (seen x c q t))
   unfolding validate_found all
   found-is = go (standing token.lease_id s.leases ascends)
     where
-      go : Standing token.lease_id s.leases → validate_found s token (lookup token.lease_id s.leases) ≡ tests_of x c q t (row x c q t)
-      go (absent e l) = ap (validate_found s token) l ∙ sym (ap (tests_of x c q t) (row_is ∙ ap (all lease_row) e))
+      go : Standing token.lease_id s.leases → validate_found s token (lookup token.lease_id s.leases) ≡ tests_of x c q t (found (seen x c q t))
+      go (absent e l) = ap (validate_found s token) l ∙ sym (ap (tests_of x c q t) (found_as [] e))
       go (present v e l) =
-          let n : length (row x c q t) ≡ 0 → ⊥ = λ z. let k = ap length (row_of-one v e) in omega (arith, lease-long v) in
           ap (validate_found s token) l
           ∙ (λ i. cond (sym (same-lease v token (stored.found token.lease_id v l).1 ready.within) i) (timely (clock-is i)) 3)
-          ∙ (λ i. cond (same_of (sym (row_of-one v e) i) (sym token_bytes i)) (timely c.scalars.lease_clock_tick) 3)
-          ∙ sym (ap (λ (b : Bool). cond b 2 (cond (same_of (row x c q t) q) (timely c.scalars.lease_clock_tick) 3)) (ne_eqb (length (row x c q t)) 0 n))
+          ∙ (λ i. cond (same_of (enc lease (lease_parts v)) (sym token_bytes i)) (timely c.scalars.lease_clock_tick) 3)
+          ∙ sym (ap (tests_of x c q t) (found_one v e))
 
   pub tests_validate : validate_bytes x q ≡ tests x c q t
   unfolding validate

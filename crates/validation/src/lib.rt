@@ -10,7 +10,6 @@ ghost use Rattle.validation.specs.Validation.{tests};
 use image::Contents;
 use refusals::Refusal;
 use requests::SnapshotLeaseToken;
-use tables::TableRows;
 
 // The Rust's `SnapshotLeaseValidationError`, in declared order; and why bytes that were lent are no image or no token.
 #[derive(Clone, Copy, Debug, PartialEq, Eq)]
@@ -56,17 +55,10 @@ fn validate_opened(
     if c.format_version != 1 {
         return Err(SnapshotLeaseValidationError::AuthorityFormatInvalid);
     }
-    let leases = c.tables[image::LEASES];
-    let rows = TableRows {
-        codes: &image::LEASE,
-        bytes: image,
-        at: leases.at,
-        left: leases.count,
-    };
-    let active = rows.find(requests::text_of(token, t.lease_id));
-    if active.is_empty() {
-        return Err(SnapshotLeaseValidationError::LeaseMissing);
-    }
+    let active = c
+        .rows(image, image::LEASES)
+        .find(requests::text_of(token, t.lease_id))
+        .ok_or(SnapshotLeaseValidationError::LeaseMissing)?;
     if !text::same(active, token) {
         return Err(SnapshotLeaseValidationError::TokenMismatch);
     }

@@ -9,8 +9,9 @@ use Rattle.machine.specs.Next.{expired, clock_advanced}
 use Rattle.next.specs.Added.{front-gathers}
 use Rattle.next.specs.Call.{refused_exit, done}
 use Rattle.next.specs.declared.PublicationOutcome.{PublicationOutcome}
-use Rattle.clock.specs.Advance.{advance-refused, advance-taken, ended_of, count_low, advance-small, advance_stand, advance-told, advance-tables, advance-shows}
+use Rattle.clock.specs.Advance.{advance-refused, advance-taken, ended_of, count_low, advance-small, advance_stand, advance-told, advance-tables, advance-shows, either-first, either_second}
 use Rattle.clock.proofs.advance_lease_clock.Goals as goal
+use Rattle.clock.proofs.advance_lease_clock.Goals.{then-call, else-call}
 
 pub returns-in_err-advance_refusal : goal.returns-in_err-advance_refusal
 returns-in_err-advance_refusal c = let r = c.requires in refused_exit r _ c.from_residual.ensures.1 (advance-refused r c.in_err-advance_refusal.ensures (number-nonzero _))
@@ -44,7 +45,7 @@ returns c = let r = c.requires in
     done r (clock_advanced r.state a.a.now.next_tick a.call.now.faults.omit_lease_root_epoch) (LeasesExpired (expired r.state a.a.now.next_tick)) a.call.now.image.now _
     (take (count + 2) body.result) a.call.now.image.now (PublicationOutcome.LeasesExpired (ended_of a.call.now.contents.now a.a.now.next_tick))
     (advance-taken r c.in_ok-advance_refusal.ensures refl)
-    (advance-shows r (rw (rows.bytes, rows.at, rows.left) at c.count_rows-t.ensures) c.saturating_sub.ensures c.policy_for-policy.ensures c.up_if.ensures c.root_after.ensures c.readable_for.ensures)
+    (advance-shows r (rw (rows.bytes, rows.at, rows.left) at c.count_rows-t.ensures) c.saturating_sub.ensures c.policy_for-policy.ensures c.up_unless-2.ensures c.up_unless.ensures (elim c.if-call.branch [ then-call w ↦ either-first _ w.if-call.true w.up_unless-is | else-call w ↦ either_second w.if-call.false w.up_unless-is ]) c.readable_for.ensures)
     (front-gathers a.call.now.image.now a.call.now.request.now (count + 2) (omega arith) body.ensures.filled ∙ advance-tables r body.ensures.body_is)
     (advance-told r)
     c.emit.ensures

@@ -29,23 +29,23 @@ overflow_add-name c = omega (arith, (publish-short (c.requires)).1, ap length c.
 
 pub overflow_add-name-2 : goal.overflow_add-name-2
 overflow_add-name-2 c = let r = c.requires in
-    omega (arith, name-fits r _ _ c.text_of-id.ensures c.text_of-root.ensures _ c.locate-spot.ensures _ c.locate-gone.ensures _ c.skip_record-root_at.ensures _ c.skip_record-start.ensures _ c.skip_record.ensures _ c.saturating_sub-size.ensures, size_fits r _ _ c.text_of-id.ensures c.text_of-root.ensures _ c.locate-spot.ensures _ c.locate-gone.ensures _ c.skip_record-root_at.ensures _ c.skip_record-start.ensures _ c.skip_record.ensures _ c.saturating_sub-size.ensures)
+    omega (arith, name-fits r _ _ c.text_of-id.ensures c.text_of-root.ensures _ c.locate-spot.ensures _ c.locate-gone.ensures _ c.skip_record-root_at.ensures _ c.row_at-token.ensures _ c.row_at-size.ensures, size_fits r _ _ c.text_of-id.ensures c.text_of-root.ensures _ c.locate-spot.ensures _ c.locate-gone.ensures _ c.skip_record-root_at.ensures _ c.row_at-token.ensures _ c.row_at-size.ensures)
 
 pub after_insert-more-requires : goal.after_insert-more-requires
-after_insert-more-requires c = insert-fits (c.requires) _ _ c.text_of-id.ensures c.text_of-root.ensures _ c.locate-spot.ensures _ c.locate-gone.ensures _ c.skip_record-root_at.ensures _ c.skip_record-start.ensures _ c.skip_record.ensures _ c.saturating_sub-size.ensures
+after_insert-more-requires c = insert-fits (c.requires) _ _ c.text_of-id.ensures c.text_of-root.ensures _ c.locate-spot.ensures _ c.locate-gone.ensures _ c.skip_record-root_at.ensures _ c.row_at-token.ensures _ c.row_at-size.ensures
 
 pub emit-requires : goal.emit-requires
 emit-requires c = let r = c.requires in
-    (published_small r _ _ c.text_of-id.ensures c.text_of-root.ensures _ c.locate-spot.ensures _ c.locate-gone.ensures _ c.skip_record-root_at.ensures _ c.skip_record-start.ensures _ c.skip_record.ensures _ c.saturating_sub-size.ensures _ _ c.after_insert-more.ensures c.after_remove-left.ensures _ c.raised-d.ensures, receipt-fits r)
+    (published_small r _ _ c.text_of-id.ensures c.text_of-root.ensures _ c.locate-spot.ensures _ c.locate-gone.ensures _ c.skip_record-root_at.ensures _ c.row_at-token.ensures _ c.row_at-size.ensures _ _ c.after_insert-more.ensures c.after_remove-left.ensures _ c.raised-d.ensures, receipt-fits r)
 
 pub returns : goal.returns
 returns c = let r = c.requires in
     let a = c.args in
     done r (collection_published r.state (receipt r).token (receipt r).output_manifest) (CollectionPublished (receipt r)) a.call.now.image.now _
-    (First (tables_place a.call.now.contents.now) c.saturating_sub-ahead.result ∷ Second c.skip_record-root_at.result (length c.text_of-root.result.now + 1) ∷ Second c.skip_record-start.result c.saturating_sub-size.result ∷ First c.locate-spot.result.end c.saturating_sub-between.result ∷ First c.locate-gone.result.end (length a.call.now.image.now) ∷ [])
+    (First (tables_place a.call.now.contents.now) c.saturating_sub-ahead.result ∷ Second c.skip_record-root_at.result (length c.text_of-root.result.now + 1) ∷ Second (27 + length c.row_at-token.result.now) (length c.row_at-size.result.now) ∷ First c.locate-spot.result.end c.saturating_sub-between.result ∷ First c.locate-gone.result.end (length a.call.now.image.now) ∷ [])
     a.call.now.image.now (PublicationOutcome.CollectionPublished a.a.now)
     (published r _ _ c.text_of-id.ensures c.text_of-root.ensures _ c.locate-spot.ensures _ c.locate-gone.ensures _ _ c.row-held.ensures c.row-stored.ensures _ c.input_stands-stands.ensures _ c.in_ok-publish_refusal.ensures refl)
-    (published_shows r _ _ c.text_of-id.ensures c.text_of-root.ensures _ c.locate-spot.ensures _ c.locate-gone.ensures _ c.skip_record-root_at.ensures _ c.skip_record-start.ensures _ c.skip_record.ensures _ c.saturating_sub-size.ensures _ _ c.after_insert-more.ensures c.after_remove-left.ensures _ c.raised-d.ensures)
-    (published_body r _ _ c.text_of-id.ensures c.text_of-root.ensures _ c.locate-spot.ensures _ c.locate-gone.ensures _ c.skip_record-root_at.ensures _ c.skip_record-start.ensures _ c.skip_record.ensures _ c.saturating_sub-size.ensures _ _ c.saturating_sub-ahead.ensures c.saturating_sub-between.ensures)
+    (published_shows r _ _ c.text_of-id.ensures c.text_of-root.ensures _ c.locate-spot.ensures _ c.locate-gone.ensures _ c.skip_record-root_at.ensures _ c.row_at-token.ensures _ c.row_at-size.ensures _ _ c.after_insert-more.ensures c.after_remove-left.ensures _ c.raised-d.ensures)
+    (published_body r _ _ c.text_of-id.ensures c.text_of-root.ensures _ c.locate-spot.ensures _ c.locate-gone.ensures _ c.skip_record-root_at.ensures _ c.row_at-token.ensures _ c.row_at-size.ensures _ _ c.saturating_sub-ahead.ensures c.saturating_sub-between.ensures)
     refl
     c.emit.ensures

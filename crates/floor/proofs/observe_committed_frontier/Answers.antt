@@ -10,7 +10,7 @@ use Rattle.machine.specs.Actions.{Applied}
 use Rattle.machine.specs.Next.{frontier_observed}
 use Rattle.requests.specs.Meaning.{context_of, faults_of}
 use Rattle.floor.specs.Floors.{oldest_at}
-use Rattle.next.specs.Rows.{rows_as}
+use Rattle.image.specs.Rows.{rows_as}
 use Rattle.next.specs.Call.{refused, done}
 use Rattle.next.specs.Kept.{number_is, small-held, small-scalars, whole-tables}
 use Rattle.next.specs.declared.PublicationOutcome.{PublicationOutcome}

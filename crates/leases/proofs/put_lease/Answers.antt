@@ -8,7 +8,7 @@ use Rattle.image.specs.TableLaws.{tables_place}
 use Rattle.machine.specs.Actions.{LeaseAcquired}
 use Rattle.machine.specs.Next.{acquired}
 use Rattle.requests.specs.Meaning.{text_of}
-use Rattle.next.specs.Rows.{rows_as}
+use Rattle.image.specs.Rows.{rows_as}
 use Rattle.next.specs.Call.{done}
 use Rattle.next.specs.declared.PublicationOutcome.{PublicationOutcome}
 use Rattle.floor.specs.Floors.{oldest_at}

@@ -8,7 +8,7 @@ use Rattle.image.specs.TableLaws.{tables_place}
 use Rattle.machine.specs.Actions.{Applied}
 use Rattle.machine.specs.Next.{released}
 use Rattle.requests.specs.Meaning.{text_of}
-use Rattle.next.specs.Rows.{rows_as}
+use Rattle.image.specs.Rows.{rows_as}
 use Rattle.next.specs.Call.{refused_exit, done}
 use Rattle.next.specs.declared.PublicationOutcome.{PublicationOutcome}
 use Rattle.edits.specs.PlaceLaws.{located_as, removed_tables}
