@@ -9,7 +9,7 @@ use Rattle.fields.specs.Codes.{then_none, read_flag, step, advance, walk, forget
 use Rattle.fields.specs.Walks.{place_of, Leaves, Rest}
 use Rattle.fields.proofs.WalkLaws.{walk-leaves}
 use Rattle.fields.specs.Rows.{text_here, walk_rows}
-use Rattle.fields.proofs.RowLaws.{walk_rows-leaves, text_here-read}
+use Rattle.fields.proofs.RowLaws.{walk_rows-leaves}
 
 -- ---- a byte, and many
 
@@ -94,22 +94,6 @@ one_less n i h = omega arith
 
 -- ---- texts, one after the other
 
--- a text that was gone over is the one that stood there
-module _ (l : ℕ) (s : List ℕ) where
-  text_gone : (r : List ℕ) → ok tt r ≡ forget (read_text l s) → ok (text_here s) r ≡ read_text l s
-  text_gone r q = go (read_text l s) refl q
-    where
-      go : (m : Res (List ℕ)) → read_text l s ≡ m → ok tt r ≡ forget m → ok (text_here s) r ≡ m
-      go (ok t r') e h = let z : r ≡ r' = cc in rw (text_here-read l s t r' e, z)
-      go (bad x) e h = cc
-
-  text_stopped : (e : ℕ) → bad e ≡ forget (read_text l s) → bad e ≡ read_text l s
-  text_stopped e q = go (read_text l s) q
-    where
-      go : (m : Res (List ℕ)) → bad e ≡ forget m → bad e ≡ m
-      go (ok t r) h = cc
-      go (bad x) h = cc
-
 abbrev pub texts_read : ℕ → ℕ → Option (List ℕ) → List ℕ → Res (Unit {0})
 texts_read l n p s = forget (rows (read_text l) itself n p s)
 
@@ -124,18 +108,18 @@ module _ (l : ℕ) (s : List ℕ) (p : Option (List ℕ)) (n i : ℕ) where
   texts_none h = let z : n - i ≡ 0 = omega arith in rw z
 
   module _ (h : i < n) where
-    pub texts_fault : (e : ℕ) → bad e ≡ forget (read_text l s) → texts_read l (n - i) p s ≡ bad e
+    pub texts_fault : (e : ℕ) → bad e ≡ read_text l s → texts_read l (n - i) p s ≡ bad e
     unfolding rows
-    texts_fault e q = rw (one_less n i h, ← text_stopped l s e q)
+    texts_fault e q = rw (one_less n i h, ← q)
 
-    module _ (r : List ℕ) (q : ok tt r ≡ forget (read_text l s)) where
-      pub texts_order : after p (text_here s) ≡ false → texts_read l (n - i) p s ≡ bad Malformed
+    module _ (t r : List ℕ) (q : ok t r ≡ read_text l s) where
+      pub texts_order : after p t ≡ false → texts_read l (n - i) p s ≡ bad Malformed
       unfolding rows
-      texts_order o = rw (one_less n i h, ← text_gone l s r q, o)
+      texts_order o = rw (one_less n i h, ← q, o)
 
-      pub texts_more : after p (text_here s) ≡ true → texts_read l (n - i) p s ≡ texts_read l (n - (i + 1)) (Some (text_here s)) r
+      pub texts_more : after p t ≡ true → texts_read l (n - i) p s ≡ texts_read l (n - (i + 1)) (Some t) r
       unfolding rows
-      texts_more o = rw (one_less n i h, ← text_gone l s r q, o, forget-map (λ (vs : List (List ℕ)). text_here s ∷ vs) (rows (read_text l) itself (n - (i + 1)) (Some (text_here s)) r))
+      texts_more o = rw (one_less n i h, ← q, o, forget-map (λ (vs : List (List ℕ)). t ∷ vs) (rows (read_text l) itself (n - (i + 1)) (Some t) r))
 
 -- ---- one code
 

@@ -48,7 +48,8 @@ impl Hop {
     }
 }
 
-// What is left of the bytes of a record. Each method reads what stands at the front, and goes behind it.
+// What is left of the bytes of a record. Each method reads what stands at the front, and goes behind it. They are laid into `record`, but
+// for the loop over the texts of a set: called one by one, they make the test of a small image an eighth longer.
 #[derive(Drop)]
 struct Walker<'a> {
     rest: &'a [u8],
@@ -65,6 +66,7 @@ impl<'a> Walker<'a> {
     }
 
     #[tactic(auto, using(crate::proofs::WalkSteps::reads))]
+    #[inline(always)]
     fn byte(&mut self) -> Result<u8, Refusal>
         ensures { read result self.new.rest.now ≡ byte self.old.rest.now }
     {
@@ -74,6 +76,7 @@ impl<'a> Walker<'a> {
     }
 
     #[tactic(auto, using(crate::proofs::WalkSteps::reads))]
+    #[inline(always)]
     fn bytes(&mut self, n: u8) -> Result<&'a [u8], Refusal>
         ensures { read_bytes result self.new.rest.now ≡ many n self.old.rest.now }
     {
@@ -86,6 +89,7 @@ impl<'a> Walker<'a> {
     }
 
     #[tactic(auto, using(crate::proofs::WalkSteps::kinds))]
+    #[inline(always)]
     fn kind(&mut self) -> Result<(), Refusal>
         ensures { read result self.new.rest.now ≡ forget (read_kind self.old.rest.now) }
     {
@@ -97,29 +101,31 @@ impl<'a> Walker<'a> {
 
     // A text: first its limit, then an early end, then UTF-8.
     #[tactic(auto, unfolding(crate::specs::Format::read_text))]
-    fn text(&mut self, limit: u8) -> Result<(), Refusal>
-        ensures { read result self.new.rest.now ≡ forget (read_text limit self.old.rest.now) }
+    #[inline(always)]
+    fn text(&mut self, limit: u8) -> Result<&'a [u8], Refusal>
+        ensures { read_bytes result self.new.rest.now ≡ read_text limit self.old.rest.now }
     {
         let n = self.byte()?;
         if n > limit {
             return Err(Refusal::OverLimit);
         }
-        if !text::is_utf8(self.bytes(n)?) {
+        let text = self.bytes(n)?;
+        if !text::is_utf8(text) {
             return Err(Refusal::NotUtf8);
         }
-        Ok(())
+        Ok(text)
     }
 
     // n texts, each after the one before it.
     // Not by `rows` of one text code: `rows` comes here by `code` and `keys`, and six methods would call each other in a circle.
     #[tactic(auto, using(crate::proofs::WalkSteps::loops))]
+    #[inline(never)]
     fn texts(&mut self, limit: u8, n: u8) -> Result<(), Refusal>
         ensures { read result self.new.rest.now ≡ forget (rows (read_text limit) itself n None self.old.rest.now) }
     {
         let mut before = None;
         for _ in 0..n {
-            let text = text_at(self.rest, 0);
-            self.text(limit)?;
+            let text = self.text(limit)?;
             if !is_after(before, text) {
                 return Err(Refusal::Malformed);
             }
@@ -129,6 +135,7 @@ impl<'a> Walker<'a> {
     }
 
     #[tactic(auto, unfolding(crate::specs::Format::read_set))]
+    #[inline(always)]
     fn keys(&mut self, most: u8, limit: u8) -> Result<(), Refusal>
         ensures { read result self.new.rest.now ≡ forget (read_set most limit self.old.rest.now) }
     {
@@ -141,6 +148,7 @@ impl<'a> Walker<'a> {
 
     // The byte of an option: how many codes are passed over.
     #[tactic(auto, using(crate::proofs::WalkSteps::flags))]
+    #[inline(always)]
     fn flag(&mut self, codes: u8) -> Result<u8, Refusal>
         ensures { read result self.new.rest.now ≡ read_flag codes self.old.rest.now }
     {
@@ -153,6 +161,7 @@ impl<'a> Walker<'a> {
 
     // One code: how many codes after it are passed over.
     #[tactic(auto, using(crate::proofs::WalkSteps::done, crate::proofs::WalkSteps::failed), unfolding(crate::specs::Codes::step))]
+    #[inline(always)]
     fn code(&mut self, code: Code) -> Result<u8, Refusal>
         ensures { read result self.new.rest.now ≡ step code self.old.rest.now }
     {
@@ -179,6 +188,7 @@ impl<'a> Walker<'a> {
 
     // The same where so many codes are yet to be passed over.
     #[tactic(auto, using(crate::proofs::WalkSteps::advance_here, crate::proofs::WalkSteps::advance_pass))]
+    #[inline(always)]
     fn advance(&mut self, over: u8, code: Code) -> Result<u8, Refusal>
         ensures { read result self.new.rest.now ≡ advance over code self.old.rest.now }
     {

@@ -1,6 +1,6 @@
 -- The default image is the front of contents with no row: format 1, and zeros.
 use Rattle.std.specs.Prelude.{ℕ, None, List, [], ◌∷◌, ◌≡◌, refl, length, take}
-use Rattle.std.proofs.Common.{append-nil, ap, ◌∙◌}
+use Rattle.std.proofs.Common.{append-nil, ap, sym, subst, arith, ◌∙◌}
 use Rattle.std.proofs.Math.Seq.{take-length}
 use Rattle.std.specs.Array.{AllOfLen}
 use Rattle.std.proofs.lemmas.List.FromFn.{fill_by_all}
@@ -14,7 +14,7 @@ use Rattle.image.specs.Contents.{contents, encode}
 use Rattle.image.specs.Layout.{each, encode_in, encode_image}
 use Rattle.image.specs.ImageParts.{entries_from, words}
 use Rattle.image.specs.Opened.{nowhere, no_contents}
-use Rattle.image.specs.Front.{front_of}
+use Rattle.image.specs.Front.{front_of, Small}
 use Rattle.image.specs.declared.Table.{Table}
 use Rattle.image.specs.declared.Scalars.{Scalars}
 use Rattle.image.specs.declared.Contents.{Contents}
@@ -63,6 +63,12 @@ default-contents c h = λ i. record { format_version = h.0 i; scalars = zero-sca
 -- contents in format 1
 abbrev pub in_format1 : Contents → Contents
 in_format1 c = record { format_version = 1; scalars = c.scalars; tables = c.tables }
+
+pub default-small : {c : Contents} → c ≡ no_contents → Small (in_format1 c)
+default-small e = subst (λ (d : Contents). Small (in_format1 d)) (sym e) none
+  where
+    none : Small (in_format1 no_contents)
+    none = record { root = omega arith; tables = (omega arith, (omega arith, (omega arith, (omega arith, (omega arith, (omega arith, tt)))))) }
 
 default-front : front_of [] (in_format1 no_contents) ≡ encode_image default
 unfolding encode_in encode enc digits all enc_option contents write writes count each entries_from words

@@ -1,6 +1,6 @@
 -- The front of an image, up to its tables, from the contents: version, entries, numbers, and the two options. Where contents
 -- show a state, the front and the bytes of the state's tables are its image in the form that is written.
-use Rattle.std.specs.Prelude.{ℕ, suc, ◌+◌, ◌≤◌, Bool, true, false, not, ◌&&◌, ◌||◌, ◌≡◌, refl, leb, ltb, take, Option, None, Some}
+use Rattle.std.specs.Prelude.{ℕ, suc, ◌+◌, ◌-◌, ◌≤◌, Bool, true, false, not, ◌&&◌, ◌||◌, ◌≡◌, refl, leb, ltb, take, replicate, Option, None, Some}
 use native.Mathlib.Omega.{arith}
 use mathlib.Core.List.{List, [], ◌∷◌, ◌++◌, append_assoc, append-nil}
 use Rattle.std.proofs.Math.Path.{sym, ap}
@@ -9,6 +9,7 @@ use Rattle.std.proofs.Math.ListN.{length, drop, length-append}
 use Rattle.parts.specs.Digits.{digits}
 use Rattle.parts.specs.DigitLaws.{length_digits}
 use Rattle.parts.specs.Over.{Wrote, over, then}
+use Rattle.std.proofs.lemmas.List.{length-replicate, drop-replicate}
 use Rattle.std.proofs.Math.Seq.{take_at}
 use Rattle.state.specs.Records.{State}
 use Rattle.fields.specs.Format.{enc_option, enc_text}
@@ -139,12 +140,19 @@ module _ (x : List ℕ) (c : Contents) (small : Small c) (six : length c.tables 
       let l = length-append H S in
       omega (arith, small.root)
 
-  -- what stands there
-  pub laid-front : {d d₁ d₂ : List ℕ} {p r : ℕ} → Wrote d 0 H p d₁ → Wrote d₁ p S r d₂ → length d ≡ 232 → take r d₂ ≡ front_of x c
+  -- what stands there, and zeros behind it
+  pub laid-front : {d₁ d₂ : List ℕ} {p r : ℕ} → Wrote (replicate 232 0) 0 H p d₁ → Wrote d₁ p S r d₂
+      → (d₂ ≡ front_of x c ++ replicate (232 - length (front_of x c)) 0) × (r ≡ length (front_of x c))
   unfolding over
-  laid-front {d} {d₁} {d₂} {p} {r} w v n =
+  laid-front {d₁} {d₂} {p} {r} w v =
       let l = length-append H S in
-      let u : Wrote d 0 (H ++ S) r d₂ = then w v (omega (arith, front_fits)) in
-      let p = u.place in
-      let m : length (H ++ S) ≡ r = omega arith in
-      ap (take r) u.is ∙ take_at (H ++ S) (drop (0 + length (H ++ S)) d) r m
+      let n : length (replicate {A = ℕ} 232 0) ≡ 232 = length-replicate {A = ℕ} 232 0 in
+      let u : Wrote (replicate 232 0) 0 (H ++ S) r d₂ = then w v (omega (arith, front_fits)) in
+      let z : 0 + length (H ++ S) ≡ length (H ++ S) = omega arith in
+      (u.is ∙ ap (λ (k : ℕ). (H ++ S) ++ drop k (replicate 232 0)) z ∙ ap (λ (k : List ℕ). (H ++ S) ++ k) (drop-replicate {X = ℕ} (length (H ++ S)) 232 0), u.place ∙ z)
+
+-- the bytes at the head of such an array
+pub front-held : (f : List ℕ) {bytes : List ℕ} {n : ℕ} → bytes ≡ f ++ replicate (232 - length f) 0 → n ≡ length f → (n ≤ length bytes) × (take n bytes ≡ f)
+front-held f b n =
+    let l = ap length b ∙ length-append f (replicate (232 - length f) 0) in
+    (omega arith, rw (b, n) (take_at f (replicate (232 - length f) 0) (length f) refl))

@@ -1,7 +1,7 @@
 // The image: opened once, then read by place.
 #![tactic(auto)]
 
-ghost use Rattle.std.specs.Prelude.{◌≡◌, ◌+◌, ◌*◌, ◌≤◌, ◌<◌, length, take, drop};
+ghost use Rattle.std.specs.Prelude.{◌≡◌, ◌++◌, ◌+◌, ◌-◌, ◌*◌, ◌≤◌, ◌<◌, length, take, drop, replicate};
 ghost use Rattle.refusals.specs.Numbers.{numbered, told};
 ghost use Rattle.parts.specs.Digits.{digits, value};
 ghost use Rattle.parts.specs.Over.{Wrote};
@@ -22,7 +22,6 @@ use fields::{Code, KEY, KEYS, NAME, U64};
 use parts::Part;
 use refusals::Refusal;
 use std::array;
-use std::marker::Model;
 use tables::TableRows;
 
 // An entry of the contents: where a body starts, its bytes, and its rows. The scalars count as one row.
@@ -95,25 +94,16 @@ pub struct Layout {
 }
 
 // The bytes of an image up to its tables, at the head of an array.
-#[derive(Drop)]
+#[derive(Clone, Copy)]
 pub struct Front {
-    bytes: [u8; 232],
-    len: usize,
-}
-
-impl Model for Front {
-    ghost use Rattle.std.specs.Prelude.{ℕ, ◌≤◌, List, length, take};
-
-    ghost Value = { List ℕ };
-
-    ghost view = { λ f. take f.len f.bytes };
-
-    ghost invariant = { λ f. f.len ≤ length f.bytes };
+    pub bytes: [u8; 232],
+    pub len: usize,
+    ghost fits: { len ≤ length bytes },
 }
 
 impl Front {
     pub fn as_slice(&self) -> &[u8]
-        ensures { result.now ≡ self.now }
+        ensures { result.now ≡ take self.now.len self.now.bytes }
     {
         &self.bytes[..self.len]
     }
@@ -281,6 +271,10 @@ pub fn row_shape(table: usize) -> &'static [Code]
 fn table_end(table: usize, most: usize, entry: Table, s: &[u8], at: usize) -> Result<usize, Refusal>
     ensures { numbered result ≡ in_place entry at (walk_of s.now (walk_body (table_body table most) entry.count (drop at s.now))) }
 {
+    // of a small image most tables are empty: no walk begins for them
+    if entry.count == 0 {
+        return entry.in_place(at, fields::within(s, at));
+    }
     if most < entry.count {
         return Err(Refusal::OverLimit);
     }
@@ -591,7 +585,8 @@ fn put_scalars(out: &mut [u8], at: usize, x: &[u8], n: &Scalars) -> usize
 // from any bytes need not be small.
 pub fn front_of(x: &[u8], c: &Contents) -> Front
     requires { Small c.now }
-    ensures { result ≡ front_of x.now c.now }
+    ensures bytes { result.bytes ≡ front_of x.now c.now ++ replicate (232 - length (front_of x.now c.now)) 0 }
+    ensures len { result.len ≡ length (front_of x.now c.now) }
 {
     let size = c.scalars.size();
     let mut bytes = [0; 232];

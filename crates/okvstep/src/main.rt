@@ -7,8 +7,12 @@ ghost use Rattle.parts.specs.Answer.{image_of, status_of};
 ghost use Rattle.parts.specs.Over.{over};
 ghost use Rattle.okvstep.specs.Moments.{room, line_of, line_text, image_at, answered_at, left_at, AtMoment};
 
-use std::io::{BufRead, Read};
-use std::{fmt, io};
+use std::fmt::{self, Write};
+
+// The numbers of the standard input and output.
+const STDIN: i32 = 0;
+
+const STDOUT: i32 = 1;
 
 // The bytes that are lent for an image, for an outcome and for a request.
 const ROOM: usize = 16384;
@@ -150,56 +154,62 @@ impl Authority {
 #[derive(Clone, Copy, Debug, PartialEq, Eq)]
 struct BadFrame;
 
-impl From<io::Error> for BadFrame {
-    fn from(_: io::Error) -> BadFrame {
-        BadFrame
-    }
-}
-
-// The next request, read to the front of `frame`; none at the end of the input.
-fn read_frame<'a>(
-    input: &mut impl BufRead,
-    frame: &'a mut [u8],
-) -> Result<Option<&'a [u8]>, BadFrame> {
-    // the input also ends where nothing can be read of it
-    if !input.fill_buf().is_ok_and(|bytes| !bytes.is_empty()) {
-        return Ok(None);
-    }
+// The next request, read to the front of `frame`; none at the end of the input. It is read by the library io: std's reader
+// takes a byte ahead, and where the input comes in messages the rest of that message is lost.
+fn read_frame(frame: &mut [u8]) -> Result<Option<&[u8]>, BadFrame> {
     let mut head = [0; 4];
-    input.read_exact(&mut head)?;
+    match io::read_full(STDIN, &mut head) {
+        // the input also ends where nothing can be read of it
+        0 => return Ok(None),
+        4 => {}
+        _ => return Err(BadFrame),
+    }
     let size = u32::from_le_bytes(head) as usize;
     let request = frame.get_mut(..size).ok_or(BadFrame)?;
-    input.read_exact(request)?;
+    if io::read_full(STDIN, request) < size {
+        return Err(BadFrame);
+    }
     Ok(Some(request))
 }
 
-// What cannot be written is passed over.
-fn print_line<D: fmt::Display + Drop>(rt: &impl Print, line: D) {
-    let _ = rt.println(line);
+// Standard output, by the library io: each piece of a text is a write of its own, and what cannot be written is passed over,
+// that piece alone.
+#[derive(Clone, Copy)]
+struct Output;
+
+impl fmt::Write for Output {
+    fn write_str(&mut self, s: &str) -> fmt::Result {
+        io::write_all(STDOUT, s.as_bytes());
+        Ok(())
+    }
+}
+
+fn print<D: fmt::Display + Drop>(text: D) {
+    let _ = Output.write(text);
+}
+
+fn print_line(line: Line) {
+    let _ = Output.writeln(line);
 }
 
 // Frame by frame, up to the end of the input.
-fn run(rt: &(impl Input + Print), authority: &mut Authority)
+fn run(authority: &mut Authority)
     requires few { authority.old.frames < 2 ^ 64 - 1 }
     requires moment { AtMoment authority.old }
     ensures few { authority.new.frames < 2 ^ 64 - 1 }
     ensures moment { AtMoment authority.new }
 {
-    let mut input = rt.reader();
     let mut frame = [0; REQUEST_ROOM];
     for _ in authority.frames..MOST_FRAMES {
-        match read_frame(&mut input, &mut frame) {
-            Ok(Some(request)) => print_line(rt, authority.step(request)),
-            Ok(None) => return print_line(rt, "end"),
-            Err(BadFrame) => return print_line(rt, "end bad"),
+        match read_frame(&mut frame) {
+            Ok(Some(request)) => print_line(authority.step(request)),
+            Ok(None) => return print("end\n"),
+            Err(BadFrame) => return print("end bad\n"),
         }
     }
 }
 
-fn main(rt: HostRuntime) {
-    print_line(
-        &rt,
-        "step status frontier policy readable collected clock epoch",
-    );
-    run(&rt, &mut Authority::new());
+fn main() {
+    print("step status frontier policy readable collected clock epoch\n");
+    run(&mut Authority::new());
 }

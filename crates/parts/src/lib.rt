@@ -61,7 +61,7 @@ fn bytes_at<const N: usize>(s: &[u8], at: usize) -> [u8; N]
         Some(bytes) => *bytes,
         None => {
             let mut bytes = [0; N];
-            bytes[..rest.len()].copy_from_slice(rest);
+            put(&mut bytes, 0, rest);
             bytes
         }
     }
@@ -82,12 +82,15 @@ pub fn u32_at(s: &[u8], at: usize) -> u32
 }
 
 // No writer holds out and at: what a contract says of a written slice is said of the whole slice, with what stands before and behind.
+// A loop and not `copy_from_slice`, which asks the C library for `memmove`: this is compiled to a vector copy in place.
 pub fn put(out: &mut [u8], at: usize, x: &[u8]) -> usize
     requires { at + length x.now ≤ length out.old }
     ensures { Wrote out.old at x.now result out.new }
 {
     let end = at + x.len();
-    out[at..end].copy_from_slice(x);
+    for (i, byte) in x.iter().enumerate() {
+        out[at + i] = *byte;
+    }
     end
 }
 

@@ -15,8 +15,12 @@ ghost use Rattle.std.specs.Iterator.{at_most};
 
 use parts::Lengths;
 use refusals::Refusal;
-use std::io::Read;
-use std::{fmt, io};
+use std::fmt::{self, Write};
+
+// The numbers of the standard input and output.
+const STDIN: i32 = 0;
+
+const STDOUT: i32 = 1;
 
 // What a lent byte holds before a call.
 const FILLING: u8 = 165;
@@ -232,15 +236,15 @@ impl fmt::Display for Line<'_> {
     fn fmt<W: fmt::Write>(&self, f: &mut fmt::Formatter<W>) -> fmt::Result {
         let count = self.count;
         let kind = match self.case {
-            Case::Load { .. } => "load",
-            Case::Apply(_) => "apply",
-            Case::Validate { .. } => "validate",
-            Case::Test { .. } => "test",
-            Case::Unknown => "no case",
+            Case::Load { .. } => " load",
+            Case::Apply(_) => " apply ",
+            Case::Validate { .. } => " validate ",
+            Case::Test { .. } => " test ",
+            Case::Unknown => " no case ",
         };
-        write!(f, "{count} {kind}")?;
+        write!(f, "{count}{kind}")?;
         if let Some(number) = self.answer.number {
-            write!(f, " {number}")?;
+            write!(f, "{number}")?;
         }
         if !self.answer.same {
             write!(f, " differs")?;
@@ -249,8 +253,20 @@ impl fmt::Display for Line<'_> {
     }
 }
 
-// Case by case, up to the end of the cases. What cannot be written is passed over.
-fn run(rt: &impl Print, cases: &[u8]) {
+// Standard output, by the library io: each piece of a text is a write of its own, and what cannot be written is passed over,
+// that piece alone.
+#[derive(Clone, Copy)]
+struct Output;
+
+impl fmt::Write for Output {
+    fn write_str(&mut self, s: &str) -> fmt::Result {
+        io::write_all(STDOUT, s.as_bytes());
+        Ok(())
+    }
+}
+
+// Case by case, up to the end of the cases.
+fn run(cases: &[u8]) {
     let mut replay = Replay {
         image: &[],
         next: [0; 65536],
@@ -264,12 +280,12 @@ fn run(rt: &impl Print, cases: &[u8]) {
             case,
             answer,
         };
-        let _ = println!(rt; "{line}");
+        let _ = writeln!(Output, "{line}");
         if answer.same {
             same = same.saturating_add(1);
         }
     }
-    let _ = println!(rt; "same {same}");
+    let _ = writeln!(Output, "same {same}");
 }
 
 // Room for the cases. Its clause says only the length: a proof that sees half a million zeros takes too long.
@@ -279,12 +295,10 @@ fn room_for_cases() -> [u8; 524288]
     [0; 524288]
 }
 
-fn main(rt: HostRuntime) {
+fn main() {
     let mut cases = room_for_cases();
-    let room = cases.len();
-    let mut left = &mut cases[..];
-    // a read that fails ends the cases
-    let _ = io::copy(&mut rt.reader().take(room as u64), &mut left);
-    let read = room.saturating_sub(left.len());
-    run(&rt, &cases[..read]);
+    // by the library io, into the whole room: `io::copy` of std reads 8,192 bytes at a time, and loses what a message has beyond
+    // them; a read that fails ends the cases
+    let read = io::read_full(STDIN, &mut cases);
+    run(&cases[..read]);
 }

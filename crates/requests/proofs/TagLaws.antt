@@ -46,7 +46,7 @@ tag_checked (suc k) t s h =
 pub tag_none : (b e : ℕ) (s : List ℕ) → tag_in b ≡ Err e → read_fields b s ≡ bad e
 unfolding read_fields
 tag_none zero e s h = cc
-tag_none (suc k) e s h = let (z, l) = missing tags k e h in fields_none k s l ∙ ap bad z
+tag_none (suc k) e s h = let (z, l) = missing tags k e h in fields_none (suc k) s (λ _. omega (arith, l)) ∙ ap bad z
 
 -- 0 is none
 pub tag_not_zero : (b : ℕ) (t : ActionTag) → tag_in b ≡ Ok t → b ≡ 0 → ⊥

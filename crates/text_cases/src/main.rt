@@ -16,9 +16,13 @@
 ghost use Rattle.std.specs.Prelude.{◌≡◌, ◌≤◌, length};
 
 use std::cmp::Ordering;
-use std::io::Read;
-use std::{fmt, io};
+use std::fmt::{self, Write};
 use text::Compared;
+
+// The numbers of the standard input and output.
+const STDIN: i32 = 0;
+
+const STDOUT: i32 = 1;
 
 // The value of a hex digit, and 0 of any other byte.
 fn digit(x: u8) -> u8
@@ -127,15 +131,15 @@ impl<'a> Answer<'a> {
 impl fmt::Display for Answer<'_> {
     fn fmt<W: fmt::Write>(&self, f: &mut fmt::Formatter<W>) -> fmt::Result {
         match *self {
-            Answer::Truth(true) => write!(f, "yes"),
-            Answer::Truth(false) => write!(f, "no"),
+            Answer::Truth(true) => write!(f, " yes"),
+            Answer::Truth(false) => write!(f, " no"),
             Answer::Order(Compared { order, steps }) => {
                 let order = match order {
-                    Ordering::Less => "less",
-                    Ordering::Equal => "equal",
-                    Ordering::Greater => "greater",
+                    Ordering::Less => " less ",
+                    Ordering::Equal => " equal ",
+                    Ordering::Greater => " greater ",
                 };
-                write!(f, "{order} {steps}")
+                write!(f, "{order}{steps}")
             }
             Answer::EachLead { hex } => each_lead(f, hex),
             Answer::EachPlace { n, m } => each_place(f, n.min(24), m.min(24)),
@@ -144,6 +148,7 @@ impl fmt::Display for Answer<'_> {
 }
 
 fn each_lead<W: fmt::Write>(f: &mut fmt::Formatter<W>, hex: &[u8]) -> fmt::Result {
+    write!(f, " ")?;
     for x in 0..=255 {
         let digit = u8::from(after(x, hex));
         write!(f, "{digit}")?;
@@ -165,6 +170,7 @@ fn compare<W: fmt::Write>(f: &mut fmt::Formatter<W>, a: &[u8], b: &[u8]) -> fmt:
 fn each_place<W: fmt::Write>(f: &mut fmt::Formatter<W>, n: usize, m: usize) -> fmt::Result
     requires { (n ≤ 24) × (m ≤ 24) }
 {
+    write!(f, " ")?;
     let mut a = LARGER;
     let mut b = SMALLER;
     for d in 0..n.min(m) {
@@ -177,24 +183,34 @@ fn each_place<W: fmt::Write>(f: &mut fmt::Formatter<W>, n: usize, m: usize) -> f
     compare(f, &b[..n], &b[..m])
 }
 
-// Line by line. What cannot be written is passed over.
-fn run(rt: &impl Print, cases: &[u8]) {
-    for line in cases.split_inclusive(|x| *x == b'\n') {
-        let line = line.strip_suffix(b"\n").unwrap_or(line);
-        let _ = rt.write_all(line);
-        if let Some(answer) = Answer::of(line) {
-            let _ = print!(rt; " {answer}");
-        }
-        let _ = println!(rt; "");
+// Standard output, by the library io: each piece of a text is a write of its own, and what cannot be written is passed over,
+// that piece alone.
+#[derive(Clone, Copy)]
+struct Output;
+
+impl fmt::Write for Output {
+    fn write_str(&mut self, s: &str) -> fmt::Result {
+        io::write_all(STDOUT, s.as_bytes());
+        Ok(())
     }
 }
 
-fn main(rt: HostRuntime) {
+// Line by line.
+fn run(cases: &[u8]) {
+    for line in cases.split_inclusive(|x| *x == b'\n') {
+        let line = line.strip_suffix(b"\n").unwrap_or(line);
+        io::write_all(STDOUT, line);
+        if let Some(answer) = Answer::of(line) {
+            let _ = write!(Output, "{answer}");
+        }
+        io::write_all(STDOUT, b"\n");
+    }
+}
+
+fn main() {
     let mut cases = [0; 65536];
-    let room = cases.len();
-    let mut left = &mut cases[..];
-    // a read that fails ends the cases
-    let _ = io::copy(&mut rt.reader().take(room as u64), &mut left);
-    let read = room.saturating_sub(left.len());
-    run(&rt, &cases[..read]);
+    // by the library io, into the whole room: `io::copy` of std reads 8,192 bytes at a time, and loses what a message has beyond
+    // them; a read that fails ends the cases
+    let read = io::read_full(STDIN, &mut cases);
+    run(&cases[..read]);
 }

@@ -1,8 +1,9 @@
 // Whether a lease token is the active one of an image.
 #![tactic(auto)]
 
-ghost use Rattle.std.specs.Prelude.{◌≡◌};
+ghost use Rattle.std.specs.Prelude.{◌≡◌, ◌≢◌, ◌≤◌};
 ghost use Rattle.entries.specs.Bytes.{validate_bytes};
+ghost use Rattle.refusals.specs.declared.Refusal.{Refusal};
 ghost use Rattle.validation.specs.Errors.{number, told};
 ghost use Rattle.validation.specs.declared.SnapshotLeaseValidationError.TheVariants.{Unread};
 ghost use Rattle.validation.specs.Validation.{tests};
@@ -50,7 +51,8 @@ fn validate_opened(
     token: &[u8],
     t: &SnapshotLeaseToken,
 ) -> Result<(), SnapshotLeaseValidationError>
-    ensures { told result ≡ tests image.now c.now token.now t.now }
+    ensures answers { told result ≡ tests image.now c.now token.now t.now }
+    ensures never_unread { (r : Refusal) → result ≢ Err (Unread r) }
 {
     if c.format_version != 1 {
         return Err(SnapshotLeaseValidationError::AuthorityFormatInvalid);
@@ -68,11 +70,13 @@ fn validate_opened(
     Ok(())
 }
 
+// Some refusals have the numbers 2 to 4 too; those that `Unread` holds have 40 or more, so that each number has one answer.
 pub fn validate_active_snapshot_lease(
     image: &[u8],
     token: &[u8],
 ) -> Result<(), SnapshotLeaseValidationError>
-    ensures { told result ≡ validate_bytes image.now token.now }
+    ensures answers { told result ≡ validate_bytes image.now token.now }
+    ensures unread { (r : Refusal) → result ≡ Err (Unread r) → 40 ≤ number (Unread r) }
 {
     let c = image::open(image).ok_or(Refusal::NotAnImage)?;
     let t = requests::parse_token(token)?;

@@ -19,4 +19,6 @@ invariant_of-result c =
     omega (arith, c.put_scalars-len.ensures.place)
 
 pub returns : goal.returns
-returns c = laid-front c.args.x.now c.args.c.now c.requires (search rules) (rw c.size-size.ensures at c.put_head-p.ensures) c.put_scalars-len.ensures (search rules)
+returns c =
+    let w = laid-front c.args.x.now c.args.c.now c.requires (search rules) (rw c.size-size.ensures at c.put_head-p.ensures) c.put_scalars-len.ensures in
+    record { bytes = w.0; len = w.1 }

@@ -3,4 +3,4 @@ use Rattle.okvstep.specs.Moments.{AtMoment}
 use Rattle.okvstep.proofs.run.Given as goal
 
 abbrev pub invariant-loop : goal.invariant-loop
-invariant-loop g l = (l.authority.frames ≡ l.counter) × AtMoment l.authority
+invariant-loop l = (l.authority.frames ≡ l.counter) × AtMoment l.authority
