@@ -114,13 +114,6 @@ impl Authority {
         }
     }
 
-    fn image(&self) -> &[u8]
-        requires { self.now.size ≤ room }
-        ensures { result.now ≡ image_at self.now }
-    {
-        &self.image[..self.size]
-    }
-
     // One request, on the image that the frames before it left: it leaves the image that the next one is stepped on.
     fn step(&mut self, request: &[u8]) -> Line
         requires few { self.old.frames < 2 ^ 64 - 1 }
@@ -138,15 +131,18 @@ impl Authority {
             &mut self.outcome,
         );
         self.frames += 1;
+        let mut size = self.size;
         let status = match applied {
             Ok(lengths) => {
                 keep(&mut self.image, &self.next, lengths.image);
-                self.size = lengths.image;
+                size = lengths.image;
                 0
             }
             Err(refusal) => refusal.number(),
         };
-        line_of(self.frames, status, self.image())
+        let line = line_of(self.frames, status, &self.image[..size]);
+        self.size = size;
+        line
     }
 }
 

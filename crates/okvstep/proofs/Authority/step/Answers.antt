@@ -10,7 +10,7 @@ use Rattle.okvstep.specs.Moments.{room, outcome_room, answered, Moment, line_of,
 use Rattle.okvstep.proofs.MomentLaws.{fits}
 use Rattle.okvstep.proofs.Steps.{Steps, refuses, accepts, left_is, onward, within}
 use Rattle.okvstep.proofs.Authority.step.Goals as goal
-use Rattle.okvstep.proofs.Authority.step.Goals.{After-apply-applied, After-line_of, in-Ok, in-Err}
+use Rattle.okvstep.proofs.Authority.step.Goals.{After-apply-applied, After-self-2-1, in-Ok, in-Err}
 
 within-image : (c : After-apply-applied) → c.args.self.now.size ≤ length c.args.self.now.image
 within-image c = omega arith
@@ -39,19 +39,19 @@ keep-requires c =
     let f : c.in-Ok.lengths.image ≤ room = rw c.in-Ok.is at (image-fits ((goal.at.keep-requires c).After-apply-applied)) in
     omega arith
 
-pub image-requires : goal.image-requires
-image-requires c =
-    let f = image-fits ((goal.at.image-requires c).After-apply-applied) in
+pub shared_ref_as_front-line_of : goal.shared_ref_as_front-line_of
+shared_ref_as_front-line_of c =
+    let f = image-fits ((goal.at.shared_ref_as_front-line_of c).After-apply-applied) in
     elim c.match-applied.branch [
-      | in-Ok v ↦ let g : v.in-Ok.lengths.image ≤ room = rw v.in-Ok.is at f in rw v.self-is (omega arith)
-      | in-Err v ↦ rw v.self-is (omega arith)
+      | in-Ok v ↦ let g : v.in-Ok.lengths.image ≤ room = rw v.in-Ok.is at f in rw v.size-is (omega arith)
+      | in-Err v ↦ rw v.size-is (omega arith)
     ]
 
 -- what is left, either way
-frames_is : (c : After-line_of) → c.match-applied.self.frames ≡ c.args.self.now.frames + 1
+frames_is : (c : After-self-2-1) → c.match-applied.self.frames ≡ c.args.self.now.frames + 1
 frames_is c = elim c.match-applied.branch [ in-Ok v ↦ ap (λ (a : Authority). a.frames) v.self-is | in-Err v ↦ ap (λ (a : Authority). a.frames) v.self-is ]
 
-module _ (c : After-line_of) where
+module _ (c : After-self-2-1) where
   abbrev w : After-apply-applied
   w = (goal.at.returns-clause-size c).After-apply-applied
 
@@ -61,14 +61,14 @@ module _ (c : After-line_of) where
   abbrev q : List ℕ
   q = c.args.request.now
 
-  abbrev Left : Authority → Type 0
-  Left r = Steps a.size a.image q (within-image w) r.size r.image
+  abbrev Left : ℕ → Authority → Type 0
+  Left n r = Steps a.size a.image q (within-image w) n r.image
 
-  steps : Left c.match-applied.self
+  steps : Left c.match-applied.size c.match-applied.self
   steps = elim c.match-applied.branch [
     | in-Ok v ↦ let n = c.apply-applied.ensures.bytes ∙ ap (λ (A : Answer). over a.next 0 (image_of A)) (told w) in
-        subst Left (sym v.self-is) (accepts a.size a.image q (within-image w) (told_of (Ok v.in-Ok.lengths)) a.next _ _ (sym (ap told_of v.in-Ok.is) ∙ answers w) refl n v.keep.ensures)
-    | in-Err v ↦ subst Left (sym v.self-is) (refuses a.size a.image q (within-image w) (told_of (Err v.in-Err.refusal)) (sym (ap told_of v.in-Err.is) ∙ answers w) (number-nonzero v.in-Err.refusal))
+        subst (λ (n : ℕ). Left n c.match-applied.self) (sym v.size-is) (subst (Left v.in-Ok.lengths.image) (sym v.self-is) (accepts a.size a.image q (within-image w) (told_of (Ok v.in-Ok.lengths)) a.next _ _ (sym (ap told_of v.in-Ok.is) ∙ answers w) refl n v.keep.ensures))
+    | in-Err v ↦ subst (λ (n : ℕ). Left n c.match-applied.self) (sym v.size-is) (subst (Left a.size) (sym v.self-is) (refuses a.size a.image q (within-image w) (told_of (Err v.in-Err.refusal)) (sym (ap told_of v.in-Err.is) ∙ answers w) (number-nonzero v.in-Err.refusal)))
   ]
 
   status : c.match-applied.status ≡ status_of (answered_at a q)
@@ -77,12 +77,12 @@ module _ (c : After-line_of) where
     | in-Err v ↦ v.status-is ∙ v.number-status.ensures ∙ ap (λ (r : Told). r.status) (sym (ap told_of v.in-Err.is) ∙ answers w)
   ]
 
-  line : c.line_of.result ≡ line_of (a.frames + 1) (status_of (answered_at a q)) (left_at a q)
+  line : c.line_of-line.result ≡ line_of (a.frames + 1) (status_of (answered_at a q)) (left_at a q)
   line =
       let l = left_is a.size a.image q (within-image w) _ _ steps in
-      c.line_of.ensures ∙ ap (line_of c.match-applied.self.frames c.match-applied.status) c.image.ensures ∙ (λ i. line_of (frames_is c i) (status i) (l i))
+      c.line_of-line.ensures ∙ (λ i. line_of (frames_is c i) (status i) (l i))
 
-  moment : Moment c.match-applied.self.frames (take c.match-applied.self.size c.match-applied.self.image) × (c.match-applied.self.size ≤ room)
+  moment : Moment c.match-applied.self.frames (take c.match-applied.size c.match-applied.self.image) × (c.match-applied.size ≤ room)
   moment =
       let b : Bytes q = λ j. omega (arith, c.type_inv.request j) in
       let k : length a.image ≡ room = omega arith in
